@@ -1,5 +1,5 @@
 -- What the imports among sentences mean, one sentence further.
-use Rattle.std.proofs.Common.{◌≡◌, refl, sym, ap, subst, ◌∙◌, ℕ, zero, suc, ◌<◌, ◌≤◌, ◌+◌, List, [], ◌∷◌, ◌++◌, length, map, take, drop, get_or, Option, Some, None, Result, Ok, Err, IsErr, IsErrAnd, IfErr, Global, arith}
+use Rattle.std.proofs.Common.{◌≡◌, sym, ap, subst, ◌∙◌, ℕ, suc, ◌<◌, ◌≤◌, ◌+◌, List, [], ◌∷◌, ◌++◌, length, map, take, drop, get_or, Option, Some, None, Result, Ok, Err, IsErr, IsErrAnd, IfErr, Global}
 use Rattle.std.specs.List.{AllZip}
 use Rattle.std.specs.declared.sync.Arc.{Arc}
 use Rattle.std.proofs.lemmas.List.{append-nil}
@@ -12,6 +12,7 @@ use Rattle.kp_rule_sets.specs.declared.rule_set.RuleSet.{RuleSet}
 use Rattle.kp_kore.specs.Theory.{NumberedAxiom, imports_in}
 use Rattle.kp_book.specs.Books.{Opening, Registration, meaning_in}
 use Rattle.kp_modules.specs.Extending.{AreSetsOf}
+use Rattle.kp_modules.proofs.Unsound.{sentences_parted}
 use Rattle.kp_registry.specs.Passes.{MeansAt}
 use Rattle.kp_additions.specs.Added.{AreBound, IsFirstUnbound}
 use Rattle.kp_additions.specs.Told.{AreMeant}
@@ -23,11 +24,6 @@ exit (Ok x) P e h p = tt
 exit (Err y) P e h p = subst P (sym h.1) p
 
 -- ---- imports
-
-sentences_parted : (ss : List Sentence) (i : ℕ) (d : Sentence) → i < length ss → map sentence_view ss ≡ map sentence_view (take i ss) ++ sentence_view (get_or ss i d) ∷ map sentence_view (drop (suc i) ss)
-sentences_parted [] i d h = absurd (omega (arith, h))
-sentences_parted (a ∷ rest) zero d h = refl
-sentences_parted (a ∷ rest) (suc i) d h = ap (λ l. sentence_view a ∷ l) (sentences_parted rest i d (omega arith))
 
 -- the imports around the next sentence
 around : (ss : List Sentence) (i : ℕ) (s : Sentence) (n : Text) → i < length ss → s ≡ get_or ss i s → imports_in (sentence_view s ∷ []) ≡ n ∷ [] → import_names ss ≡ import_names (take i ss) ++ n ∷ import_names (drop (suc i) ss)

@@ -12,6 +12,7 @@ use Rattle.kp_kore.specs.Cases.{HaveOneSort}
 use Rattle.kp_kore.proofs.ListLemmas.{all_map, all_filter}
 use Rattle.kp_kore.proofs.NameLemmas.{by_name, members_named, taken_named, true_is_false}
 use Rattle.kp_kore.proofs.TurnLemmas.{of_member, each_member}
+use Rattle.kp_kore.proofs.ArcLemmas.{sorts_stay, agrees_through}
 use Rattle.kp_symbolic.proofs.Distribution.{all_both, all_first, all_second}
 use Rattle.kp_symbolic.specs.WellFormed.{AreAtHand}
 use Rattle.kp_case_laws.specs.NextStates.{HasNoLost}
@@ -33,14 +34,6 @@ hand_in_hand xs ys zs a b = of_hand (Contains zs) xs ys a b
 pub agree_itself : (xs : List SortedName) (v : Valuation) → AgreesOn xs v v
 agree_itself [] v = tt
 agree_itself (x ∷ xs) v = (refl, agree_itself xs v)
-
-pub agree_then : (xs : List SortedName) (u v w : Valuation) → AgreesOn xs u v → AgreesOn xs v w → AgreesOn xs u w
-agree_then [] u v w a b = tt
-agree_then (x ∷ xs) u v w a b = (b.0 ∙ a.0, agree_then xs u v w a.1 b.1)
-
-pub sorts_stay : (g : KoreSignature) (xs : List SortedName) (v w : Valuation) → AgreesOn xs v w → GivesSorts g v xs → GivesSorts g w xs
-sorts_stay g [] v w a s = tt
-sorts_stay g (x ∷ xs) v w a s = (subst (HasSort g x.sort) (sym a.0) s.0, sorts_stay g xs v w a.1 s.1)
 
 -- ---- one sort for each name
 
@@ -116,7 +109,7 @@ pub joined_hand : (g : KoreSignature) (hand more : List SortedName) (s p : KoreP
     GivesSorts g x hand → AgreesOn (free_variables s) v x → AgreesOff (variables_beyond s p) v z → GivesSorts g z (free_variables p) → Joined g hand more p x z
 joined_hand g hand more s p u v x z s_at at p_at one lost all sorts on off given = record {
   chosen = mixed both u some;
-  agrees = agree_then hand x some (mixed both u some) some_on_hand (all_first (λ y. mixed both u some y.name ≡ some y.name) hand new (mixed_agrees both u some));
+  agrees = agrees_through hand x some (mixed both u some) some_on_hand (all_first (λ y. mixed both u some y.name ≡ some y.name) hand new (mixed_agrees both u some));
   sorts = mixed_sorts g both more u some (all_both (Contains more) hand new at (all_filter (Contains more) beyond (free_variables p) p_at)) one all
       (all_both (λ y. HasSort g y.sort (some y.name)) hand new (sorts_stay g hand x some some_on_hand sorts) (sorts_stay g new z some (mixed_agrees new x z) (all_filter (λ y. HasSort g y.sort (z y.name)) beyond (free_variables p) given)));
   on_pattern = all_map (λ y. is_named y.name (free_variables p) ≡ true) (λ y. mixed both u some y.name ≡ z y.name) (free_variables p) (λ y n. by_test y.name n (is_named y.name new) refl) (members_named (free_variables p));
@@ -150,7 +143,7 @@ joined_hand g hand more s p u v x z s_at at p_at one lost all sorts on off given
     by_test y n false e =
         let old : is_named y (free_variables s) ≡ true = taken_named y (free_variables s) (free_variables p) n e in
         let on_x : mixed both u some y ≡ x y = by_name (λ w. mixed both u some w ≡ x w) y hand (named_in y old)
-        (agree_then hand x some (mixed both u some) some_on_hand (all_first (λ w. mixed both u some w.name ≡ some w.name) hand new (mixed_agrees both u some))) in
+        (agrees_through hand x some (mixed both u some) some_on_hand (all_first (λ w. mixed both u some w.name ≡ some w.name) hand new (mixed_agrees both u some))) in
         on_x ∙ by_name (λ w. x w ≡ v w) y (free_variables s) old on ∙ sym (off y e)
       where
         named_in : (y : Text) → is_named y (free_variables s) ≡ true → is_named y hand ≡ true

@@ -18,15 +18,17 @@ use Rattle.kp_kore.specs.Cases.{IsCase, NextState, HaveOneSort}
 use Rattle.kp_kore.specs.Executions.{Options, is_among, IsStuck, IsBranching, IsCutPoint}
 use Rattle.kp_kore.proofs.ListLemmas.{all_map}
 use Rattle.kp_kore.proofs.TurnLemmas.{of_member, none_fires}
+use Rattle.kp_kore.proofs.ArcLemmas.{sorts_stay}
 use Rattle.kp_symbolic.specs.States.{SymbolicState, IsStateInstance}
 use Rattle.kp_symbolic.specs.WellFormed.{AreAtHand}
 use Rattle.kp_symbolic.proofs.Distribution.{all_both}
+use Rattle.kp_symbolic_laws.proofs.OpenedGood.{turned_test}
 use Rattle.kp_case_laws.specs.Parts.{whole, AreNew, IsNewVariable, IsGrown}
 use Rattle.kp_case_laws.specs.Firing.{HasNoInstance}
 use Rattle.kp_case_laws.specs.NextStates.{StepCase, placed, AreStepCases, IsPatternOf, IsAtHand, IsWritten, IsWithinHand, HaveValues}
 use Rattle.kp_case_laws.specs.RunLaws.{IsAloneBy}
 use Rattle.kp_case_laws.specs.EndLaws.{id_of_case}
-use Rattle.kp_case_laws.proofs.AtHandLemmas.{sorts_of_hand, sorts_stay, mixed, mixed_elsewhere, mixed_agrees}
+use Rattle.kp_case_laws.proofs.AtHandLemmas.{sorts_of_hand, mixed, mixed_elsewhere, mixed_agrees}
 use Rattle.kp_case_laws.proofs.NextStateLemmas.{Valued, valued, state_instance, is_case, next_states}
 use Rattle.kp_case_laws.proofs.StepCases.{HoldsIn, IsGoodCase, any_unmade, some_turn_case, good_cases}
 use Rattle.kp_case_laws.proofs.LoneRule.{has_turn_alone}
@@ -140,18 +142,11 @@ neither : (a b : Bool) → a || b ≡ false → (a ≡ false) × (b ≡ false)
 neither true b h = absurd (cc)
 neither false b h = (refl, h)
 
-turned : (x y : Text) → bytes_eq x y ≡ false → bytes_eq y x ≡ false
-turned x y h = by (bytes_eq y x) refl
-  where
-    by : (b : Bool) → bytes_eq y x ≡ b → bytes_eq y x ≡ false
-    by true e = absurd (cc (sym h ∙ (bytes_eq-Decides x y).1 (sym ((bytes_eq-Decides y x).0 e))))
-    by false e = e
-
 still_given : (g : KoreSignature) (x : Text) (u : Value) (v : Valuation) (ys : List SortedName) → is_named x ys ≡ false → GivesSorts g v ys → GivesSorts g (put_first x u v) ys
 still_given g x u v [] n h = tt
 still_given g x u v (y ∷ ys) n h =
     let no = neither (bytes_eq y.name x) (is_named x ys) n in
-    (subst (HasSort g y.sort) (sym (elsewhere x u v y.name (turned y.name x no.0))) h.0, still_given g x u v ys no.1 h.1)
+    (subst (HasSort g y.sort) (sym (elsewhere x u v y.name (turned_test y.name x no.0))) h.0, still_given g x u v ys no.1 h.1)
 
 -- new variables have values
 new_values : (g : KoreSignature) (used : List Text) (scope new : List SortedName) → AreNew scope new → AllByRecursion (IsNewVariable g used) new → Value → HaveValues g new
@@ -171,7 +166,7 @@ unnamed_each (x ∷ scope) new a = (first_unnamed x scope new a, unnamed_each sc
 
     first_unnamed : (x : SortedName) (scope new : List SortedName) → AreNew (x ∷ scope) new → is_named x.name new ≡ false
     first_unnamed x scope [] a = refl
-    first_unnamed x scope (y ∷ new) a = both_false (bytes_eq y.name x.name) (is_named x.name new) (turned x.name y.name (neither (bytes_eq x.name y.name) (is_named y.name scope) a.0).0) (first_unnamed x scope new a.2)
+    first_unnamed x scope (y ∷ new) a = both_false (bytes_eq y.name x.name) (is_named x.name new) (turned_test x.name y.name (neither (bytes_eq x.name y.name) (is_named y.name scope) a.0).0) (first_unnamed x scope new a.2)
 
     rest_new : (x : SortedName) (scope new : List SortedName) → AreNew (x ∷ scope) new → AreNew scope new
     rest_new x scope [] a = tt

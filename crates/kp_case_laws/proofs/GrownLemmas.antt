@@ -8,8 +8,8 @@ use Rattle.kp_kore.specs.Signature.{KoreSignature}
 use Rattle.kp_kore.specs.Instance.{is_named}
 use Rattle.kp_kore.proofs.NameLemmas.{first_false, second_false}
 use Rattle.kp_symbolic.proofs.Distribution.{all_both}
+use Rattle.kp_symbolic.proofs.Agreeing.{turned}
 use Rattle.kp_case_laws.specs.Parts.{StatePart, AreNew, IsNewVariable, IsGrown}
-use Rattle.kp_case_laws.proofs.NewVariables.{turned}
 
 both_false : (a b : Bool) → a ≡ false → b ≡ false → a || b ≡ false
 both_false true b e f = absurd (cc)

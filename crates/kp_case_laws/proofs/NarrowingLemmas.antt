@@ -10,8 +10,7 @@ use Rattle.kp_kore.specs.Scopes.{IsWithin}
 use Rattle.kp_kore.specs.Cases.{OfOneAlone}
 use Rattle.kp_kore.specs.Division.{IsHeldBy}
 use Rattle.kp_kore.proofs.TruthLemmas.{agrees_back}
-use Rattle.kp_kore.proofs.RunLemmas.{agrees_through}
-use Rattle.kp_kore.proofs.ArcLemmas.{sorts_stay}
+use Rattle.kp_kore.proofs.ArcLemmas.{sorts_stay, agrees_through}
 use Rattle.kp_compile.specs.Spelled.{places_of}
 use Rattle.kp_symbolic.specs.Terms.{SymbolicTerm, unknown, known, term_instance, term_instances}
 use Rattle.kp_symbolic.specs.States.{HeadTest, one_head, head_of_sort, PassesHead, same, has_head, Literal, IsClauseTrue, AreTrue, IsStateInstance}
@@ -22,10 +21,11 @@ use Rattle.kp_symbolic.proofs.Folded.{applied_is}
 use Rattle.kp_symbolic.proofs.HeadLemmas.{passes-Decides, head_from_sort}
 use Rattle.kp_symbolic.proofs.HeadQuestions.{assigned_all, sort_from_head, test_says}
 use Rattle.kp_symbolic.proofs.Leaf.{one_literal, formula_says, then_says}
+use Rattle.kp_symbolic.proofs.Agreeing.{itself_there}
 use Rattle.kp_case_laws.specs.Parts.{StatePart, state_reading, IsPartBelow, IsDivided, IsRestricted, IsTold, DependsOnHand, AreNew}
 use Rattle.kp_case_laws.specs.Narrowings.{IsMade, IsNarrowing, equates, head_clauses, are_never, all_unknown, constructor_term, has_other_head, sorts_of_names, IsForConstructor}
 use Rattle.kp_case_laws.proofs.PartLemmas.{agrees_itself}
-use Rattle.kp_case_laws.proofs.NewVariables.{there, scope_stays, new_sorts, new_values, of_unknown, values_agree}
+use Rattle.kp_case_laws.proofs.NewVariables.{scope_stays, new_sorts, new_values, of_unknown, values_agree}
 
 abbrev Gives : KoreSignature → Valuation → SortedName → Type 0
 Gives g w x = HasSort g x.sort (w x.name)
@@ -210,7 +210,7 @@ made_by_sort g scope x y v i a h s =
     record {
       chosen = w;
       extends = record { agrees = stays; sorts = all_both (Gives g w) scope (y ∷ []) (sorts_stay g scope v w stays h) (new_sorts g v scope (y ∷ []) us (s, tt) a) };
-      are_true = (equates_says g w x (unknown y)).1 ((i.agree v w stays).0 ∙ sym (there v y.name (v x.name)));
+      are_true = (equates_says g w x (unknown y)).1 ((i.agree v w stays).0 ∙ sym (itself_there v y.name (v x.name)));
     }
 
 pub sort_narrows : (g : KoreSignature) (scope : List SortedName) (x y : SortedName) → IsWithin g (x ∷ []) scope → AreNew scope (y ∷ []) → IsNarrowing g scope (y ∷ []) (equates x (unknown y)) (head_clauses g false x (head_of_sort y.sort))

@@ -1,40 +1,17 @@
 -- Values for new variables.
-use Rattle.std.proofs.Common.{◌≡◌, refl, sym, ◌∙◌, ap, ap₂, subst, Bool, true, false, List, [], ◌∷◌}
-use Rattle.std.specs.Prelude.{if◌then◌else◌}
+use Rattle.std.proofs.Common.{◌≡◌, refl, sym, ◌∙◌, ap₂, subst, List, [], ◌∷◌}
 use Rattle.std.specs.List.{AllByRecursion}
-use Rattle.std.specs.Str.{bytes_eq}
-use Rattle.std.proofs.lemmas.Slice.Eq.{bytes_eq-Decides}
-use Rattle.kp_kore.specs.Syntax.{Text}
 use Rattle.kp_kore.specs.Parts.{SortedName}
 use Rattle.kp_kore.specs.Signature.{KoreSignature}
 use Rattle.kp_kore.specs.Value.{Value, Values, no_values, next_value, HasSort, HaveSorts}
-use Rattle.kp_kore.specs.Instance.{Valuation, GivesSorts, AgreesOn, assigned, is_named}
-use Rattle.kp_kore.proofs.NameLemmas.{first_false, second_false, true_is_false}
-use Rattle.kp_kore.proofs.RunLemmas.{agrees_through}
+use Rattle.kp_kore.specs.Instance.{Valuation, GivesSorts, AgreesOn, assigned}
+use Rattle.kp_kore.proofs.ArcLemmas.{agrees_through}
 use Rattle.kp_symbolic.specs.Terms.{term_instances, all_term_variables}
+use Rattle.kp_symbolic.proofs.Agreeing.{not_there, itself_there}
 use Rattle.kp_symbolic.proofs.HeadQuestions.{assigned_all, off_names}
 use Rattle.kp_case_laws.specs.Parts.{AreNew}
 use Rattle.kp_case_laws.specs.Narrowings.{all_unknown, sorts_of_names}
 use Rattle.kp_case_laws.proofs.PartLemmas.{agrees_itself}
-
--- ---- a value for one name
-
-pub turned : (x y : Text) → bytes_eq x y ≡ false → bytes_eq y x ≡ false
-turned x y e = by (bytes_eq y x) refl
-  where
-    by : (b : Bool) → bytes_eq y x ≡ b → b ≡ false
-    by false q = refl
-    by true q = absurd (true_is_false (sym ((bytes_eq-Decides x y).1 (sym ((bytes_eq-Decides y x).0 q))) ∙ e))
-
-not_there : (v : Valuation) (y : Text) (u : Value) (xs : List SortedName) → is_named y xs ≡ false → AgreesOn xs v (assigned v y u)
-not_there v y u [] e = tt
-not_there v y u (x ∷ xs) e = (
-  ap (λ b. if b then u else v x.name) (turned x.name y (first_false (bytes_eq x.name y) (is_named y xs) e)),
-  not_there v y u xs (second_false (bytes_eq x.name y) (is_named y xs) e),
-)
-
-pub there : (v : Valuation) (y : Text) (u : Value) → assigned v y u y ≡ u
-there v y u = ap (λ b. if b then u else v y) ((bytes_eq-Decides y y).1 refl)
 
 -- ---- values for all
 
@@ -44,7 +21,7 @@ scope_stays v scope (y ∷ new) no_values a = agrees_itself scope v
 scope_stays v scope (y ∷ new) (next_value u us) a = agrees_through scope v (assigned v y.name u) (assigned_all (assigned v y.name u) new us) (not_there v y.name u scope a.0) (scope_stays (assigned v y.name u) scope new us a.2)
 
 first_stays : (v : Valuation) (scope : List SortedName) (y : SortedName) (new : List SortedName) (u : Value) (us : Values) → AreNew scope (y ∷ new) → assigned_all (assigned v y.name u) new us y.name ≡ u
-first_stays v scope y new u us a = off_names (assigned v y.name u) new us y.name a.1 ∙ there v y.name u
+first_stays v scope y new u us a = off_names (assigned v y.name u) new us y.name a.1 ∙ itself_there v y.name u
 
 pub new_sorts : (g : KoreSignature) (v : Valuation) (scope new : List SortedName) (us : Values) → HaveSorts g (sorts_of_names new) us → AreNew scope new → GivesSorts g (assigned_all v new us) new
 new_sorts g v scope [] us h a = tt

@@ -21,11 +21,12 @@ use Rattle.kp_symbolic.specs.WellFormed.{AreAtHand}
 use Rattle.kp_symbolic.proofs.Distribution.{all_both, all_second}
 use Rattle.kp_symbolic.proofs.Folded.{for_instance}
 use Rattle.kp_symbolic.proofs.HeadQuestions.{assigned_all}
+use Rattle.kp_symbolic.proofs.Agreeing.{term_agrees}
 use Rattle.kp_case_laws.specs.Parts.{StatePart, IsSortedPart, AreNew}
 use Rattle.kp_case_laws.specs.Narrowings.{all_unknown, sorts_of_names}
 use Rattle.kp_case_laws.specs.Cases.{IsBoundBy}
 use Rattle.kp_case_laws.specs.Nexts.{fresh_bindings, AreBoundOrNew, all_bindings, IsNextState, IsInstantiated, IsNextOver}
-use Rattle.kp_case_laws.proofs.HandLemmas.{agrees_at_hand, term_agrees, clauses_agree}
+use Rattle.kp_case_laws.proofs.HandLemmas.{agrees_at_hand, clauses_agree}
 use Rattle.kp_case_laws.proofs.NewVariables.{scope_stays, new_sorts, new_values}
 use Rattle.kp_case_laws.proofs.CourseLemmas.{found_before, found_behind}
 use Rattle.kp_case_laws.proofs.RowLemmas.{bound_at}
@@ -52,7 +53,7 @@ not_fresh [] zs x e = refl
 not_fresh (y ∷ ys) [] x e = refl
 not_fresh (y ∷ ys) (z ∷ zs) x e = ap (λ b. if b then Some (unknown z) else replacement_for (fresh_bindings ys zs) x) (first_false (bytes_eq y.name x) (is_named x ys) e) ∙ not_fresh ys zs x (second_false (bytes_eq y.name x) (is_named x ys) e)
 
-new_is_unbound : (bs : List Replaced) (ys : List SortedName) (x : Text) → AllByRecursion (λ (y : SortedName). replacement_for bs y.name ≡ None) ys → is_named x ys ≡ true → replacement_for bs x ≡ None
+pub new_is_unbound : (bs : List Replaced) (ys : List SortedName) (x : Text) → AllByRecursion (λ (y : SortedName). replacement_for bs y.name ≡ None) ys → is_named x ys ≡ true → replacement_for bs x ≡ None
 new_is_unbound bs [] x h e = absurd (true_is_false (sym e))
 new_is_unbound bs (y ∷ ys) x h e = by (bytes_eq y.name x) refl (new_is_unbound bs ys x h.1) e
   where

@@ -16,12 +16,13 @@ use Rattle.kp_kore.specs.Scopes.{Extends}
 use Rattle.kp_kore.specs.Replies.{variables_beyond}
 use Rattle.kp_kore.proofs.TruthLemmas.{same_truth, agrees_back}
 use Rattle.kp_kore.proofs.ConjunctionLemmas.{same_pattern_instance}
+use Rattle.kp_kore.proofs.ArcLemmas.{sorts_stay, agrees_through}
 use Rattle.kp_symbolic.specs.States.{SymbolicState, IsStateInstance}
 use Rattle.kp_symbolic.specs.WellFormed.{AreAtHand}
 use Rattle.kp_symbolic.proofs.Distribution.{all_both, all_first}
 use Rattle.kp_case_laws.specs.Parts.{StatePart}
 use Rattle.kp_case_laws.specs.NextStates.{FollowsBy, StepCase, placed, AreStepCases, IsAtHand, IsWritten, IsWithinHand}
-use Rattle.kp_case_laws.proofs.AtHandLemmas.{sorts_of_hand, agree_of_hand, hand_in_hand, agree_itself, agree_then, sorts_stay, one_sort_in_hand, mixed, mixed_elsewhere, mixed_agrees, mixed_sorts, back_to_patterns, Joined, joined_hand}
+use Rattle.kp_case_laws.proofs.AtHandLemmas.{sorts_of_hand, agree_of_hand, hand_in_hand, agree_itself, one_sort_in_hand, mixed, mixed_elsewhere, mixed_agrees, mixed_sorts, back_to_patterns, Joined, joined_hand}
 use Rattle.kp_case_laws.proofs.StepCases.{id_in, HoldsIn, RuleGoes, RuleHolds, IsTurnOf, IsGoodCase, one_unmade, any_unmade, any_member, all_of_zip, any_of_zip, one_of_zip, one_case, some_case, good_cases}
 
 -- ---- values of the state's pattern as values at hand
@@ -63,7 +64,7 @@ held_true : (t : Theory) (request p : KorePattern) (s : SymbolicState) (k : Step
 held_true t request p s k n v x c h written good a held =
     let g : KoreSignature = t.signature in
     let y : Valuation = held.chosen in
-    let on_p : AgreesOn (free_variables p) v y = agree_then (free_variables p) v x y a.agrees (agree_of_hand x y (free_variables p) s.variables h.pattern.at_hand held.agrees) in
+    let on_p : AgreesOn (free_variables p) v y = agrees_through (free_variables p) v x y a.agrees (agree_of_hand x y (free_variables p) s.variables h.pattern.at_hand held.agrees) in
     let z : Valuation = mixed (variables_beyond p n.predicate) v y in
     let same : AgreesOn (free_variables n.predicate) y z = back_to_patterns p n.predicate v y on_p in
     record {
@@ -81,7 +82,7 @@ true_held t request p s k n v x c h written good a met over =
     joined_hand g s.variables P p n.predicate good.hand.values.0 v x over.chosen h.pattern.at_hand good.hand.part written.predicate.at_hand (part_one_sort g s k good.hand) written.none_lost.1
     (sorts_of_hand g good.hand.values.0 P k.next.variables good.hand.next good.hand.values.1) a.sorts a.agrees over.agrees over.sorts in
     let w : Valuation = j.chosen in
-    let on_p : AgreesOn (free_variables p) v w = agree_then (free_variables p) v x w a.agrees (agree_of_hand x w (free_variables p) s.variables h.pattern.at_hand j.agrees) in
+    let on_p : AgreesOn (free_variables p) v w = agrees_through (free_variables p) v x w a.agrees (agree_of_hand x w (free_variables p) s.variables h.pattern.at_hand j.agrees) in
     let below : IsStateInstance g w s c = (h.pattern.instances w c (sorts_of_hand g w s.variables P good.hand.part j.sorts)).0 (same_pattern_instance g p v w c on_p met) in
     record {
       chosen = w;
@@ -116,13 +117,13 @@ follows t request p s k n v x c later (Some r) e h written good a goes held =
     let g : KoreSignature = t.signature in
     let next : FollowsBy g r.body k.part k.next = subst (λ o. MatchOption o (k.next ≡ k.part.state) (λ r. FollowsBy g r.body k.part k.next)) e good.next in
     let y : (y : Valuation) × Extends g k.part.state.variables k.next.variables held.chosen y × IsStateInstance g y k.next later = next.found held.chosen c held.sorts held.met later goes.rewrites in
-    let on_hand : AgreesOn s.variables x y.0 = agree_then s.variables x held.chosen y.0 held.agrees (agree_of_hand held.chosen y.0 s.variables k.part.state.variables good.hand.part y.1.agrees) in
-    next_over t request p s k n v y.0 later h written (agree_then (free_variables p) v x y.0 a.agrees (agree_of_hand x y.0 (free_variables p) s.variables h.pattern.at_hand on_hand)) y.1.sorts y.2
+    let on_hand : AgreesOn s.variables x y.0 = agrees_through s.variables x held.chosen y.0 held.agrees (agree_of_hand held.chosen y.0 s.variables k.part.state.variables good.hand.part y.1.agrees) in
+    next_over t request p s k n v y.0 later h written (agrees_through (free_variables p) v x y.0 a.agrees (agree_of_hand x y.0 (free_variables p) s.variables h.pattern.at_hand on_hand)) y.1.sorts y.2
 follows t request p s k n v x c later None e h written good a goes held =
     let g : KoreSignature = t.signature in
     let next : k.next ≡ k.part.state = subst (λ o. MatchOption o (k.next ≡ k.part.state) (λ r. FollowsBy g r.body k.part k.next)) e good.next in
     next_over t request p s k n v held.chosen later h written
-    (agree_then (free_variables p) v x held.chosen a.agrees (agree_of_hand x held.chosen (free_variables p) s.variables h.pattern.at_hand held.agrees))
+    (agrees_through (free_variables p) v x held.chosen a.agrees (agree_of_hand x held.chosen (free_variables p) s.variables h.pattern.at_hand held.agrees))
     (subst (λ q. GivesSorts g held.chosen q.variables) (sym next) held.sorts)
     (subst (λ u. IsStateInstance g held.chosen k.next u) (sym goes.1) (subst (λ q. IsStateInstance g held.chosen q c) (sym next) held.met))
 
@@ -176,7 +177,7 @@ only_next t request p s cases k n step h written good v later given over =
     let from : ComesOf t s k.rule w later = comes_of t s cases k w later k.rule refl step good j.sorts met in (
       from.configuration,
       pattern_instance g request p s v w from.configuration h (sorts_of_hand g w s.variables k.next.variables at j.sorts)
-          (agree_then (free_variables p) v x.0 w x.1.agrees (agree_of_hand x.0 w (free_variables p) s.variables h.pattern.at_hand j.agrees)) from.met,
+          (agrees_through (free_variables p) v x.0 w x.1.agrees (agree_of_hand x.0 w (free_variables p) s.variables h.pattern.at_hand j.agrees)) from.met,
       subst (λ o. GoesTo t o from.configuration later) (sym written.id) from.goes,
     )
 

@@ -25,11 +25,11 @@ use Rattle.kp_case_laws.proofs.CourseLemmas.{course_begins, course_ends, course_
 
 -- ---- lists
 
-any_first : {X : Type 0} (P : X → Type 0) (xs ys : List X) → AnyByRecursion P xs → AnyByRecursion P (xs ++ ys)
+pub any_first : {X : Type 0} (P : X → Type 0) (xs ys : List X) → AnyByRecursion P xs → AnyByRecursion P (xs ++ ys)
 any_first P [] ys h = absurd h
 any_first P (x ∷ xs) ys h = elim h [ inl a ↦ inl a | inr b ↦ inr (any_first P xs ys b) ]
 
-any_second : {X : Type 0} (P : X → Type 0) (xs ys : List X) → AnyByRecursion P ys → AnyByRecursion P (xs ++ ys)
+pub any_second : {X : Type 0} (P : X → Type 0) (xs ys : List X) → AnyByRecursion P ys → AnyByRecursion P (xs ++ ys)
 any_second P [] ys h = h
 any_second P (x ∷ xs) ys h = inr (any_second P xs ys h)
 

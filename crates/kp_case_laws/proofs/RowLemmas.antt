@@ -16,7 +16,7 @@ use Rattle.kp_kore.specs.Instance.{Valuation, GivesSorts, applied}
 use Rattle.kp_kore.specs.Foreign.{IsConstructedBy}
 use Rattle.kp_kore.proofs.InstanceLemmas.{first_true, second_true}
 use Rattle.kp_kore.proofs.SameLemmas.{sorts_equal-Decides}
-use Rattle.kp_signature.proofs.NumberLemmas.{number_value, truth_value}
+use Rattle.kp_signature.proofs.NumberLemmas.{number_value}
 use Rattle.kp_compile.specs.Spelled.{places_of}
 use Rattle.kp_symbolic.specs.Terms.{SymbolicTerm, unknown, offset, known, headed, SymbolicTerms, no_terms, next_term, term_instance, term_instances, term_variables, Replaced, replacement_for}
 use Rattle.kp_symbolic.specs.States.{head_of_sort, AreTrue}
@@ -25,7 +25,7 @@ use Rattle.kp_symbolic.specs.Opening.{head_of_call}
 use Rattle.kp_symbolic.proofs.CallOpening.{meaning_by}
 use Rattle.kp_symbolic.proofs.Distribution.{all_both, all_first, all_second}
 use Rattle.kp_symbolic.proofs.HeadLemmas.{head_from_sort}
-use Rattle.kp_symbolic.proofs.HeadQuestions.{sort_from_head}
+use Rattle.kp_symbolic.proofs.HeadQuestions.{sort_from_head, call_head}
 use Rattle.kp_symbolic.proofs.SortedFolding.{symbol_fits}
 use Rattle.kp_symbolic.proofs.WellSorted.{plain_symbol, IsPlainSymbol, result_is, number_sort_is, applied_has_sort, term_sorted, terms_sorted}
 use Rattle.kp_symbolic_laws.proofs.Step.{at_hand_given}
@@ -227,20 +227,6 @@ pub no_such_head : (g : KoreSignature) (p : StatePart) (form : Form) (x : Sorted
 no_such_head g p form x c fs h a n = other_head_never g p form (unknown x) c fs h (λ w u sorts met. n (w x.name) (at_hand_given g w p.state.variables (x ∷ []) sorts a).0)
 
 -- ---- heads of terms that are no variables
-
-number_head : (g : KoreSignature) (s : KoreSort) (u : Value) → is_number_sort g s ≡ true → HasSort g s u → head_of u ≡ integers
-number_head g s u i h = ap head_of (number_value g s u i h).1
-
-truth_head : (g : KoreSignature) (s : KoreSort) (u : Value) → is_truth_sort g s ≡ true → HasSort g s u → head_of u ≡ booleans
-truth_head g s u i h = ap head_of (truth_value g s u i h).1
-
-call_head : (g : KoreSignature) (h : Hook) (ss : KoreSorts) (s : KoreSort) (u : Value) → fits_hook g h ss s ≡ true → HasSort g s u → head_of u ≡ head_of_call h
-call_head g (whole_arithmetic a) ss s u e h = number_head g s u (second_true (are_two (is_number_sort g) ss) (is_number_sort g s) e) h
-call_head g (whole_comparison c) ss s u e h = truth_head g s u (second_true (are_two (is_number_sort g) ss) (is_truth_sort g s) e) h
-call_head g (truth_connective c) ss s u e h = truth_head g s u (second_true (are_two (is_truth_sort g) ss) (is_truth_sort g s) e) h
-call_head g truth_negation ss s u e h = truth_head g s u (second_true (are_one (is_truth_sort g) ss) (is_truth_sort g s) e) h
-call_head g values_equal ss s u e h = truth_head g s u (second_true (are_two (λ t. true) ss) (is_truth_sort g s) e) h
-call_head g values_different ss s u e h = truth_head g s u (second_true (are_two (λ t. true) ss) (is_truth_sort g s) e) h
 
 symbol_head : (g : KoreSignature) (f : Text) (us : Values) (h : Head) (k : IsPlainSymbol g f) (m : SymbolMeaning) → meaning_of g f ≡ m → stands_in_terms m ≡ true → HaveSorts g (places_of g f) us → IsHeadOfSymbol f m h → head_of (applied m f us) ≡ h
 symbol_head g f us h k construction e i s is = is

@@ -20,12 +20,13 @@ use Rattle.kp_kore.proofs.ListLemmas.{all_append, all_map}
 use Rattle.kp_kore.proofs.RunLemmas.{steps_join, steps_split, leads_of}
 use Rattle.kp_kore.proofs.TurnLemmas.{of_member, each_member}
 use Rattle.kp_kore.proofs.TruthLemmas.{agrees_back}
+use Rattle.kp_kore.proofs.ArcLemmas.{agrees_through}
 use Rattle.kp_symbolic.specs.States.{SymbolicState, IsStateInstance}
 use Rattle.kp_symbolic.specs.WellFormed.{AreAtHand}
 use Rattle.kp_case_laws.specs.Parts.{whole, OfEachInstance, IsGrown, IsNewVariable}
 use Rattle.kp_case_laws.proofs.GrownLemmas.{grown_itself, grown_further}
 use Rattle.kp_case_laws.specs.NextStates.{StepCase, IsPatternOf}
-use Rattle.kp_case_laws.proofs.AtHandLemmas.{of_hand, sorts_of_hand, agree_of_hand, hand_in_hand, agree_itself, agree_then, member_named, Joined, joined_hand}
+use Rattle.kp_case_laws.proofs.AtHandLemmas.{of_hand, sorts_of_hand, agree_of_hand, hand_in_hand, agree_itself, member_named, Joined, joined_hand}
 use Rattle.kp_case_laws.proofs.LoneRule.{alone, has_turn_alone}
 use Rattle.kp_case_laws.proofs.AloneSteps.{good, steps_on}
 use Rattle.kp_case_laws.specs.Runs.{StateLeads, StatePasses, StateReaches, HasRunTo, RunEndsBy}
@@ -77,7 +78,7 @@ joined t s m later d a b = record {
       let k : (k : Value) × StepsIn t d c k × StepsIn t 1 k e = steps_split t d 1 c e (subst (λ n. StepsIn t n c e) (sym (one_after d)) steps) in
       let x : (x : Valuation) × Extends t.signature s.variables m.variables w x × IsStateInstance t.signature x m k.0 = a.found w c sorts met k.0 k.1 in
       let y : (y : Valuation) × Extends t.signature m.variables later.variables x.0 y × IsStateInstance t.signature y later e = b.found x.0 k.0 x.1.sorts x.2 e k.2 in
-      (y.0, record { agrees = agree_then s.variables w x.0 y.0 x.1.agrees (agree_of_hand x.0 y.0 s.variables m.variables a.at_hand y.1.agrees); sorts = y.1.sorts }, y.2);
+      (y.0, record { agrees = agrees_through s.variables w x.0 y.0 x.1.agrees (agree_of_hand x.0 y.0 s.variables m.variables a.at_hand y.1.agrees); sorts = y.1.sorts }, y.2);
   only = λ x e sorts met.
       let k : (k : Value) × IsStateInstance t.signature x m k × StepsIn t 1 k e = b.only x e sorts met in
       let c : (c : Value) × IsStateInstance t.signature x s c × StepsIn t d c k.0 = a.only x k.0 (sorts_of_hand t.signature x m.variables later.variables b.at_hand sorts) k.1 in

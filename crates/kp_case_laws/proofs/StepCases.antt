@@ -1,5 +1,5 @@
 -- Each instance of a state lies in one of the parts of its case; what is so of each case of a step.
-use Rattle.std.proofs.Common.{◌≡◌, refl, sym, ◌∙◌, subst, ap, zero, suc, arith, List, [], ◌∷◌, ◌++◌, Option, Some, None, inl, inr}
+use Rattle.std.proofs.Common.{◌≡◌, refl, sym, ◌∙◌, subst, ap, zero, suc, arith, List, [], ◌∷◌, Option, Some, None, inl, inr}
 use Rattle.std.specs.Prelude.{map}
 use Rattle.std.specs.List.{AllByRecursion, AllZip, Contains, flat_map}
 use Rattle.std.specs.Option.{option_map}
@@ -12,24 +12,19 @@ use Rattle.kp_kore.specs.Theory.{Theory}
 use Rattle.kp_kore.specs.Steps.{AnyByRecursion, Fires, HasTurn, StepsBy, NoneFires, Rewrites}
 use Rattle.kp_kore.specs.Cases.{IsCase, GoesTo, OfOneAlone}
 use Rattle.kp_kore.specs.Division.{IsHeldBy}
-use Rattle.kp_kore.proofs.ListLemmas.{all_map, any_all}
+use Rattle.kp_kore.proofs.ListLemmas.{all_map, any_all, all_both as both_of_all}
 use Rattle.kp_kore.proofs.TurnLemmas.{each_member}
+use Rattle.kp_kore.proofs.Dividing.{none_then_one, one_then_none}
+use Rattle.kp_kore.proofs.Splitting.{any_of_one}
 use Rattle.kp_symbolic.specs.States.{SymbolicState, IsStateInstance}
 use Rattle.kp_symbolic.proofs.Distribution.{all_both}
 use Rattle.kp_case_laws.specs.Parts.{StatePart, state_reading, IsPartBelow, whole, OfEachInstance}
 use Rattle.kp_case_laws.specs.Firing.{AreWhere}
 use Rattle.kp_case_laws.specs.Turns.{Turn, rules_of, AreTurns}
 use Rattle.kp_case_laws.specs.NextStates.{StepCase, IsNext, Placed, placed, cases_of_turns, HaveOwnIds, AreStepCases, IsWithinHand}
+use Rattle.kp_case_laws.proofs.OnCourse.{any_first, any_second}
 
 -- ---- lists
-
-one_then_none : {X : Type 0} (P : X → Type 0) (xs ys : List X) → OfOneAlone P xs → AllByRecursion (λ x. ¬ P x) ys → OfOneAlone P (xs ++ ys)
-one_then_none P [] ys h k = absurd h
-one_then_none P (x ∷ xs) ys h k = elim h [ inl a ↦ inl (a.0, all_both (λ x. ¬ P x) xs ys a.1 k) | inr b ↦ inr (b.0, one_then_none P xs ys b.1 k) ]
-
-none_then_one : {X : Type 0} (P : X → Type 0) (xs ys : List X) → AllByRecursion (λ x. ¬ P x) xs → OfOneAlone P ys → OfOneAlone P (xs ++ ys)
-none_then_one P [] ys h k = k
-none_then_one P (x ∷ xs) ys h k = inr (h.0, none_then_one P xs ys h.1 k)
 
 -- of what is made of the members
 none_of_made : {X Y : Type 0} (f : X → Y) (P : X → Type 0) (Q : Y → Type 0) (xs : List X) → ((x : X) → Q (f x) → P x) → AllByRecursion (λ x. ¬ P x) xs → AllByRecursion (λ y. ¬ Q y) (map f xs)
@@ -66,21 +61,9 @@ all_made : {X Y : Type 0} (f : X → Y) (Q : Y → Type 0) (xs : List X) → All
 all_made f Q [] h = tt
 all_made f Q (x ∷ xs) h = (h.0, all_made f Q xs h.1)
 
-any_of_one : {X : Type 0} (P : X → Type 0) (xs : List X) → OfOneAlone P xs → AnyByRecursion P xs
-any_of_one P [] h = h
-any_of_one P (x ∷ xs) h = elim h [ inl a ↦ inl a.0 | inr b ↦ inr (any_of_one P xs b.1) ]
-
 any_made : {X Y : Type 0} (f : X → Y) (P : X → Type 0) (Q : Y → Type 0) (xs : List X) → ((x : X) → P x → Q (f x)) → AnyByRecursion P xs → AnyByRecursion Q (map f xs)
 any_made f P Q [] to h = h
 any_made f P Q (x ∷ xs) to h = elim h [ inl a ↦ inl (to x a) | inr b ↦ inr (any_made f P Q xs to b) ]
-
-any_left : {X : Type 0} (P : X → Type 0) (xs ys : List X) → AnyByRecursion P xs → AnyByRecursion P (xs ++ ys)
-any_left P [] ys h = absurd h
-any_left P (x ∷ xs) ys h = elim h [ inl a ↦ inl a | inr b ↦ inr (any_left P xs ys b) ]
-
-any_right : {X : Type 0} (P : X → Type 0) (xs ys : List X) → AnyByRecursion P ys → AnyByRecursion P (xs ++ ys)
-any_right P [] ys h = h
-any_right P (x ∷ xs) ys h = inr (any_right P xs ys h)
 
 same_member : {X : Type 0} (xs : List X) (x : X) → Contains xs x → AnyByRecursion (λ y. y ≡ x) xs
 same_member [] x (k, less, e) = absurd (omega arith)
@@ -161,9 +144,6 @@ other_id : (id : Text) (r : RewriteRule) (xs : List RewriteRule) → AllByRecurs
 other_id id r [] n a e = a
 other_id id r (q ∷ xs) n a e = elim a [ inl h ↦ n.0 (ap (λ k. k.id) h ∙ sym e) | inr b ↦ other_id id r xs n.1 b e ]
 
-turned_away : (id : Text) (q : RewriteRule) → ¬ (id ≡ q.id) → ¬ (q.id ≡ id)
-turned_away id q n e = n (sym e)
-
 one_turn : (t : Theory) (s : SymbolicState) (v : Valuation) (c : Value) (r : RewriteRule) (turns : List Turn) → GivesSorts t.signature v s.variables → IsStateInstance t.signature v s c → HaveOwnIds (rules_of turns) → AllByRecursion (OfTurn t s) turns → AnyByRecursion (λ q. q ≡ r) (rules_of turns) → HasTurn t r c →
     OfOneAlone (λ k. (id_in k.0 ≡ Some r.id) × HoldsIn t.signature s v c k.1) (by_turns turns)
 one_turn t s v c r [] sorts met own parts among turn = absurd among
@@ -188,9 +168,9 @@ some_turn : (t : Theory) (s : SymbolicState) (v : Valuation) (c : Value) (r : Re
     AnyByRecursion (λ k. (k.0 ≡ Some r) × HoldsIn t.signature s v c k.1) (by_turns turns)
 some_turn t s v c r [] sorts met parts among turn = absurd among
 some_turn t s v c r (x ∷ xs) sorts met parts among turn = elim among [
-  | inl e ↦ any_left P first (by_turns xs)
+  | inl e ↦ any_first P first (by_turns xs)
       (any_made (λ p. (Some x.rule, p)) (HoldsIn t.signature s v c) P x.parts (λ p h. (ap Some e, h)) (any_of_one (HoldsIn t.signature s v c) x.parts (parts.0.divided.each v c sorts met (subst (λ q. HasTurn t q c) (sym e) turn))))
-  | inr b ↦ any_right P first (by_turns xs) (some_turn t s v c r xs sorts met parts.1 b turn)
+  | inr b ↦ any_second P first (by_turns xs) (some_turn t s v c r xs sorts met parts.1 b turn)
 ]
   where
     P : Placed → Type 0
@@ -225,7 +205,7 @@ one_case t s turns remainder v c sorts met a own None is =
 pub some_turn_case : (t : Theory) (s : SymbolicState) (turns : List Turn) (remainder : List StatePart) (v : Valuation) (c : Value) (r : RewriteRule) → GivesSorts t.signature v s.variables → IsStateInstance t.signature v s c → AreTurns t (whole s) turns remainder → Contains t.rules r → HasTurn t r c →
     AnyByRecursion (λ k. (k.0 ≡ Some r) × HoldsIn t.signature s v c k.1) (cases_of_turns turns remainder)
 some_turn_case t s turns remainder v c r sorts met a m turn =
-    any_left (λ k. (k.0 ≡ Some r) × HoldsIn t.signature s v c k.1) (by_turns turns) (map (λ p. (None, p)) remainder)
+    any_first (λ k. (k.0 ≡ Some r) × HoldsIn t.signature s v c k.1) (by_turns turns) (map (λ p. (None, p)) remainder)
     (some_turn t s v c r turns sorts met a.parts (same_member (rules_of turns) r (a.all v c sorts met r m turn)) turn)
 
 -- the part that holds the instance, by the rule itself
@@ -257,7 +237,7 @@ some_case t s turns remainder v c next sorts met a (Some id) goes =
     weaken P Q [] f h = h
     weaken P Q (k ∷ ks) f h = elim h [ inl x ↦ inl (f k x) | inr y ↦ inr (weaken P Q ks f y) ]
 some_case t s turns remainder v c next sorts met a None goes =
-    any_right (RuleHolds t s v c next None) (by_turns turns) (map (λ p. (None, p)) remainder)
+    any_second (RuleHolds t s v c next None) (by_turns turns) (map (λ p. (None, p)) remainder)
     (any_made (λ p. (None, p)) (HoldsIn t.signature s v c) (RuleHolds t s v c next None) remainder (λ p h. (refl, goes, h)) (any_of_one (HoldsIn t.signature s v c) remainder (a.remain.divided.each v c sorts met goes.0)))
 
 -- ---- what is so of each case
@@ -274,10 +254,6 @@ pub record IsGoodCase (t : Theory) (s : SymbolicState) (k : StepCase) : Type 0 w
 
 abbrev IsGoodPlace : Theory → SymbolicState → Placed → Type 0
 IsGoodPlace t s k = IsPartBelow t.signature (whole s) k.1 × IsTurnOf t k.0 k.1
-
-both_of_all : {X : Type 0} (P Q : X → Type 0) (xs : List X) → AllByRecursion P xs → AllByRecursion Q xs → AllByRecursion (λ x. P x × Q x) xs
-both_of_all P Q [] a b = tt
-both_of_all P Q (x ∷ xs) a b = ((a.0, b.0), both_of_all P Q xs a.1 b.1)
 
 good_turns : (t : Theory) (s : SymbolicState) (turns : List Turn) → AllByRecursion (λ x. Contains t.rules x.rule) turns → AllByRecursion (OfTurn t s) turns → AllByRecursion (IsGoodPlace t s) (by_turns turns)
 good_turns t s [] members parts = tt

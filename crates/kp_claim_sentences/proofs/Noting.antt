@@ -4,7 +4,7 @@ use Rattle.std.specs.List.{list_all, list_any, filter, flat_map}
 use Rattle.std.specs.Option.{option_map}
 use Rattle.std.specs.Str.{bytes_eq}
 use Rattle.std.proofs.Math.Seq.{take-suc}
-use Rattle.std.proofs.lemmas.List.{drop_more, map-append, append_assoc}
+use Rattle.std.proofs.lemmas.List.{map-append, append_assoc}
 use Rattle.std.proofs.lemmas.List.Folds.{list_all-append}
 use Rattle.std.proofs.lemmas.Slice.Eq.{bytes_eq-Decides}
 use Rattle.kp_kore.specs.Syntax.{Text, KorePattern}
@@ -13,14 +13,12 @@ use Rattle.kp_kore.specs.View.{view, sorted_variable_view, names_view}
 use Rattle.kp_kore.specs.declared.pattern.Pattern.{Pattern}
 use Rattle.kp_kore.specs.declared.pattern_free.SortedVariable.{SortedVariable}
 use Rattle.kp_kore.specs.Instance.{is_named}
+use Rattle.kp_kore.proofs.ListLemmas.{one_left}
 use Rattle.kp_compile.specs.Parts.{seen}
 use Rattle.kp_claim_sentences.specs.Claims.{bound_at}
 
 pub taken : {X : Type 0} (xs : List X) (i : ℕ) (x : X) → i < length xs → x ≡ get_or xs i x → take (i + 1) xs ≡ take i xs ++ x ∷ []
 taken xs i x h read = let more : i + 1 ≡ suc i = omega arith in ap (λ k. take k xs) more ∙ take-suc xs i x h ∙ ap (λ y. take i xs ++ y ∷ []) (sym read)
-
-pub left : {X : Type 0} (xs : List X) (i : ℕ) (x : X) → i < length xs → x ≡ get_or xs i x → drop i xs ≡ x ∷ drop (i + 1) xs
-left xs i x h read = drop_more xs i x h ∙ ap (λ y. y ∷ drop (i + 1) xs) (sym read)
 
 -- names of variables, behind others
 pub variables_more : (before : List Text) (vs : List SortedVariable) (i : ℕ) (v : SortedVariable) → i < length vs → v ≡ get_or vs i v →
@@ -41,7 +39,7 @@ names_more before ls i l h read =
 -- what is bound from a place on
 pub bound_left : (ps : List (Bor Pattern)) (i : ℕ) (p : Bor Pattern) → i < length ps → p ≡ get_or ps i p →
     flat_map bound_at (seen (drop i ps)) ≡ bound_at (view p.now) ++ flat_map bound_at (seen (drop (i + 1) ps))
-bound_left ps i p h read = ap (λ l. flat_map bound_at (seen l)) (left ps i p h read)
+bound_left ps i p h read = ap (λ l. flat_map bound_at (seen l)) (one_left ps i p h read)
 
 -- ---- tests
 

@@ -6,10 +6,10 @@ use Rattle.kp_kore.specs.Syntax.{Text, KoreSort, KoreSorts, no_sorts, next_sort,
 use Rattle.kp_kore.specs.Attributes.{sorts_equal}
 use Rattle.kp_kore.specs.Parts.{SortedName, is_term, free_variables, subpatterns}
 use Rattle.kp_kore.specs.Signature.{KoreSignature}
+use Rattle.kp_kore.proofs.SameLemmas.{sorts_equal-Decides}
 use Rattle.kp_signature.specs.Places.{Place, the_top, part_at, argument_at, after, argument_sorts, own_sort, earlier}
 use Rattle.kp_signature.specs.Verify.{VerifyFault, sort_differs, fault_unless, sort_fault, symbol_fault, difference, variable_fault, injection_fault, literal_fault, width_fault, depth_fault, first_of, fault_at, first_fault, arguments_fault, VerifiesAs}
 use Rattle.kp_signature.proofs.OwnSorts.{has_a_sort}
-use Rattle.kp_signature.proofs.Same.{sorts_equal-Decides}
 use Rattle.kp_compile.specs.Spelled.{first_foreign, first_member, foreign_name}
 use Rattle.kp_claims.specs.Claims.{ClaimSides, has_none, is_ground}
 use Rattle.kp_claims.specs.Faults.{bare_claim}

@@ -6,7 +6,7 @@ use Rattle.kp_kore.specs.Attributes.{sorts_equal}
 use Rattle.kp_kore.specs.View.{view, sort_view, sorts_view, patterns_view}
 use Rattle.kp_kore.specs.declared.sort.Sort.{Sort}
 use Rattle.kp_kore.specs.declared.pattern.Pattern.{Pattern}
-use Rattle.kp_signature.proofs.Same.{sorts_equal-Decides}
+use Rattle.kp_kore.proofs.SameLemmas.{sorts_equal-Decides}
 use Rattle.kp_claims.specs.Claims.{is_one_path, ground_sides, reached_on_all}
 use Rattle.kp_claims.specs.Faults.{one_path, other_shape, outline_fault}
 

@@ -128,7 +128,7 @@ token_given g a u front v x k h =
 
 -- ---- sorts
 
-zipped : {X : Type 0} (P Q R : X → Type 0) (xs : List X) → ((x : X) → P x → Q x → R x) → AllByRecursion P xs → AllByRecursion Q xs → AllByRecursion R xs
+pub zipped : {X : Type 0} (P Q R : X → Type 0) (xs : List X) → ((x : X) → P x → Q x → R x) → AllByRecursion P xs → AllByRecursion Q xs → AllByRecursion R xs
 zipped P Q R [] f h k = tt
 zipped P Q R (x ∷ xs) f h k = (f x h.0 k.0, zipped P Q R xs f h.1 k.1)
 

@@ -1,9 +1,10 @@
 -- Places in lists.
-use Rattle.std.proofs.Common.{arith, ◌≡◌, refl, sym, ap, ◌∙◌, ◌↔◌, ℕ, zero, suc, ◌+◌, ◌<◌, ◌≤◌, Bool, true, false, ◌||◌, List, [], ◌∷◌, map, length, drop, get_or}
+use Rattle.std.proofs.Common.{arith, ◌≡◌, refl, sym, ap, ◌∙◌, ◌↔◌, ℕ, suc, ◌+◌, ◌<◌, ◌≤◌, Bool, true, false, ◌||◌, List, [], ◌∷◌, map, length, drop, get_or}
 use Rattle.std.specs.Prelude.{if◌then◌else◌}
 use Rattle.std.specs.Bool.{Decides}
 use Rattle.std.specs.List.{AllByRecursion, list_any, flat_map}
 use Rattle.std.proofs.lemmas.List.{drop_more}
+use Rattle.kp_kore.proofs.ListLemmas.{none_left}
 use Rattle.kp_demands.proofs.Lists.{all_map, all_append}
 use Rattle.kp_clause_demands.specs.Numbers.{place_by}
 
@@ -68,12 +69,6 @@ place_later same f xs i x y lt is e h = let here : place_by same (map f (drop i 
 mapped_length : {X Y : Type 0} (f : X → Y) (xs : List X) → length (map f xs) ≡ length xs
 mapped_length f [] = refl
 mapped_length f (x ∷ xs) = ap suc (mapped_length f xs)
-
-none_left : {X : Type 0} (xs : List X) (i : ℕ) → length xs ≤ i → drop i xs ≡ []
-none_left [] zero h = refl
-none_left [] (suc i) h = refl
-none_left (x ∷ xs) zero h = absurd (omega (arith, h))
-none_left (x ∷ xs) (suc i) h = none_left xs i (omega (arith, h))
 
 pub place_ends : {X Y : Type 0} (same : Y → Y → Bool) (f : X → Y) (xs : List X) (i : ℕ) (y : Y) → length xs ≤ i → place_by same (map f xs) y ≡ i + place_by same (map f (drop i xs)) y → length xs ≡ place_by same (map f xs) y
 place_ends same f xs i y past h =

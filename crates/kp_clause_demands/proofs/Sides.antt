@@ -6,7 +6,7 @@ use Rattle.kp_kore.specs.Signature.{KoreSignature}
 use Rattle.kp_ground.specs.View.{value_view}
 use Rattle.kp_kore.specs.Value.{Value, whole, truth, token, constructed}
 use Rattle.kp_kore.specs.Instance.{Valuation, GivesSorts}
-use Rattle.kp_signature.proofs.Same.{sorts_equal-Decides}
+use Rattle.kp_kore.proofs.SameLemmas.{sorts_equal-Decides}
 use Rattle.kp_clause_demands.specs.Saying.{token_value}
 use Rattle.kp_symbolic.specs.View.{variable_view}
 use Rattle.kp_literals.specs.Forms.{token_part_view}

@@ -4,9 +4,9 @@ use Rattle.std.specs.List.{list_all, filter, find}
 use Rattle.kp_kore.specs.Syntax.{Text, KoreSort, SymbolDeclaration}
 use Rattle.kp_kore.specs.Signature.{KoreSignature, Head, integers, booleans, tokens, constructor_of, is_head, heads_of, has_only_numbers, has_only_truths}
 use Rattle.kp_kore.specs.Value.{Value, whole, truth, token, constructed, HasSort}
+use Rattle.kp_kore.proofs.SameLemmas.{sorts_equal-Decides}
 use Rattle.kp_signature.proofs.HeadLemmas.{is_head-Decides, passed_by_heads}
 use Rattle.kp_signature.proofs.NumberLemmas.{only_numbers, only_truths}
-use Rattle.kp_signature.proofs.Same.{sorts_equal-Decides}
 use Rattle.kp_symbolic.specs.Plain.{is_tokens_of, are_tokens_of_one, has_only_tokens}
 use Rattle.kp_literals.specs.Kinds.{lowers}
 use Rattle.kp_clause_demands.specs.Kinds.{token_sort}

@@ -6,8 +6,7 @@ use Rattle.std.proofs.lemmas.List.{length-replicate}
 use Rattle.kp_kore.specs.Syntax.{Text, KoreSort}
 use Rattle.kp_kore.specs.Attributes.{sorts_equal}
 use Rattle.kp_kore.specs.Value.{Value, whole, truth, token, constructed, values_same}
-use Rattle.kp_kore.proofs.SameLemmas.{values_same-Decides}
-use Rattle.kp_signature.proofs.Same.{sorts_equal-Decides}
+use Rattle.kp_kore.proofs.SameLemmas.{values_same-Decides, sorts_equal-Decides}
 use Rattle.kp_symbolic.specs.Plain as model
 use Rattle.kp_demands.specs.Classes.{AreFixed}
 use Rattle.kp_clause_demands.specs.Numbers.{place_by, parts_same}

@@ -23,7 +23,7 @@ use Rattle.kp_symbolic.specs.Opening.{literal_fact, opened_same, opened_test, qu
 use Rattle.kp_symbolic.specs.Clauses.{distributed, is_too_large}
 use Rattle.kp_symbolic.specs.Writing.{IsSaid, written_clause}
 use Rattle.kp_symbolic.specs.Solving.{is_single, literals_in}
-use Rattle.kp_symbolic.proofs.Distribution.{all_both, all_first, all_second}
+use Rattle.kp_symbolic.proofs.Distribution.{all_first, all_second}
 use Rattle.kp_symbolic.proofs.Folded.{for_instance, for_variables}
 use Rattle.kp_symbolic.proofs.SeenLemmas.{Says}
 use Rattle.kp_symbolic.proofs.CallOpening.{opened_same_says}
@@ -31,8 +31,9 @@ use Rattle.kp_symbolic.proofs.Replacing.{replaced_variables, replaced_is}
 use Rattle.kp_symbolic.proofs.WellSorted.{term_sorted, term_given, sorted_written}
 use Rattle.kp_symbolic.proofs.SortedFolding.{replaced_sorted}
 use Rattle.kp_symbolic.proofs.HeadQuestions.{test_says}
-use Rattle.kp_symbolic.proofs.Leaf.{quotation_is, formula_says, one_literal, once_says, then_says}
+use Rattle.kp_symbolic.proofs.Leaf.{quotation_is, formula_says, one_literal, once_says, then_says, named_here}
 use Rattle.kp_symbolic.proofs.Written.{clause_said}
+use Rattle.kp_symbolic.proofs.Solved.{two_lists}
 use Rattle.kp_clause_substitution.specs.Replacing.{with_terms, beside, opened_under, all_opened_under, clause_under}
 use Rattle.kp_clause_substitution.specs.Substituted.{substituted_clause, substituted_clauses, substituted, IsReady}
 
@@ -81,7 +82,7 @@ beside_is g v qs (r ∷ rs) tail y k n = by (bytes_eq r.name y) refl (beside_is 
     by false q i = rw q (i (λ t z. k t (rw q z)) (λ z. n (rw q z)))
 
 -- the replacements of the names that pass the test are the same
-filtered_for : (test : Text → Bool) (qs : List Replaced) (y : Text) → test y ≡ true → replacement_for (filter (λ q. test q.name) qs) y ≡ replacement_for qs y
+pub filtered_for : (test : Text → Bool) (qs : List Replaced) (y : Text) → test y ≡ true → replacement_for (filter (λ q. test q.name) qs) y ≡ replacement_for qs y
 filtered_for test [] y e = refl
 filtered_for test (q ∷ qs) y e = by (bytes_eq q.name y) refl (test q.name) refl (filtered_for test qs y e)
   where
@@ -113,14 +114,6 @@ one_agrees g v qs p rs x h = beside_is g v qs rs (filter (λ q. is_new p rs q.na
 all_agree : (g : KoreSignature) (v : Valuation) (qs : List Replaced) (p : KorePattern) (rs : List Replaced) (xs : List SortedName) → AllByRecursion (IsReadyFor g qs v p rs) xs → AgreesOn xs (under_replaced g rs (under_replaced g qs v)) (under_replaced g (beside g qs p rs) v)
 all_agree g v qs p rs [] h = tt
 all_agree g v qs p rs (x ∷ xs) h = (one_agrees g v qs p rs x h.0, all_agree g v qs p rs xs h.1)
-
-named_here : (x : SortedName) (before xs : List SortedName) → is_named x.name (before ++ x ∷ xs) ≡ true
-named_here x [] xs = rw ((bytes_eq-Decides x.name x.name).1 refl) refl
-named_here x (y ∷ before) xs = by (bytes_eq y.name x.name) (named_here x before xs)
-  where
-    by : (b : Bool) → is_named x.name (before ++ x ∷ xs) ≡ true → b || is_named x.name (before ++ x ∷ xs) ≡ true
-    by true k = refl
-    by false k = k
 
 all_ready : (g : KoreSignature) (v : Valuation) (qs : List Replaced) (p : KorePattern) (rs : List Replaced) (before xs : List SortedName) → before ++ xs ≡ free_variables p →
     AllByRecursion (λ x. IsWellSorted g x.sort (term_for x (replacement_for rs x.name))) xs → AllByRecursion (Sorted g qs v) (flat_map (λ x. variables_for x (replacement_for rs x.name)) xs) → AllByRecursion (IsReadyFor g qs v p rs) xs
@@ -268,12 +261,6 @@ clause_substituted g v sort qs n c h = by_case g v (list_any (λ q. is_named q.n
     (kept_clause g v qs c)
     (written_replaced g v sort qs c h)
     (clause_replaced g v sort qs c h)
-
-two_lists : (g : KoreSignature) (v : Valuation) (xs bs : List (List Literal)) (A B : Type 0) → AreTrue g v xs ↔ A → AreTrue g v bs ↔ B → AreTrue g v (xs ++ bs) ↔ (A × B)
-two_lists g v xs bs A B i j = (
-  (λ h. (i.0 (all_first (IsClauseTrue g v) xs bs h), j.0 (all_second (IsClauseTrue g v) xs bs h))),
-  (λ h. all_both (IsClauseTrue g v) xs bs (i.1 h.0) (j.1 h.1)),
-)
 
 clauses_substituted : (g : KoreSignature) (v : Valuation) (sort : KoreSort) (qs : List Replaced) (n : ℕ) (cs : List (List Literal)) → AllByRecursion (AreReady g v sort qs) cs → AreTrue g v (substituted_clauses g sort qs n cs) ↔ AreTrue g (under_replaced g qs v) cs
 clauses_substituted g v sort qs n [] h = ((λ a. a), (λ a. a))

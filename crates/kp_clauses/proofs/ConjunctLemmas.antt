@@ -100,7 +100,7 @@ literal_quoted g rs p n so_far d is e h = one_more (2 ^ 64 - 1) n so_far wide e
 
 -- ---- conjuncts behind so many literals, as they are counted
 
-same_test : (m n l : ℕ) → min m 16385 ≡ min n 16385 → nat_lt 16384 (m + l) ≡ nat_lt 16384 (n + l)
+pub same_test : (m n l : ℕ) → min m 16385 ≡ min n 16385 → nat_lt 16384 (m + l) ≡ nat_lt 16384 (n + l)
 same_test m n l e = by (nat_lt 16384 (m + l)) (nat_lt 16384 (n + l)) refl refl
   where
     by : (a b : Bool) → nat_lt 16384 (m + l) ≡ a → nat_lt 16384 (n + l) ≡ b → nat_lt 16384 (m + l) ≡ nat_lt 16384 (n + l)
@@ -109,7 +109,7 @@ same_test m n l e = by (nat_lt 16384 (m + l)) (nat_lt 16384 (n + l)) refl refl
     by true false p q = absurd (grind (arith, nat_tests))
     by false true p q = absurd (grind (arith, nat_tests))
 
-still_same : (m n l k : ℕ) → min m 16385 ≡ min n 16385 → l ≡ k → min (m + l) 16385 ≡ min (n + k) 16385
+pub still_same : (m n l k : ℕ) → min m 16385 ≡ min n 16385 → l ≡ k → min (m + l) 16385 ≡ min (n + k) 16385
 still_same m n l k e d = omega (arith, e, d)
 
 pub counted_alike : (g : KoreSignature) (rs : List Replaced) (m n : ℕ) (ps : List KorePattern) → min m 16385 ≡ min n 16385 → clauses_of_conjuncts g rs m ps ≡ clauses_of_conjuncts g rs n ps

@@ -22,7 +22,7 @@ use Rattle.kp_signature.proofs.VerifiedMembers.{StandsVerified, all_conjuncts_st
 use Rattle.kp_symbolic.specs.Solving.{opened_state}
 use Rattle.kp_symbolic.specs.States.{SymbolicState, HasInstancesOf}
 use Rattle.kp_symbolic.proofs.Distribution.{all_first, all_second}
-use Rattle.kp_symbolic.proofs.OpenedState.{opened_as, opened_instances}
+use Rattle.kp_symbolic.proofs.OpenedState.{opened_as, opened_instances, state_of, state_of_sort}
 use Rattle.kp_clauses.specs.Faults.{StateFault, foreign_symbol, other_shape, first_among, symbol_fault, part_fault, members_fault, state_fault}
 use Rattle.kp_clauses.specs.Opened.{opened_of}
 
@@ -170,15 +170,6 @@ term_sort : (g : KoreSignature) (p t : KorePattern) (s : KoreSort) → VerifiesA
 term_sort g p t s h is =
     let one = (subst (AllByRecursion (λ q. IsSorted g s q × (is_term q ≡ true))) is (all_filtered (IsSorted g s) is_term (conjuncts p) (members_sorted g p s h))).0 in
     sym (own_of_term g t one.1) ∙ one.0 one.1
-
-abbrev state_of_sort : KoreSignature → KorePattern → KorePattern → Option KoreSort → Option SymbolicState
-state_of_sort g p t (Some s) = Some (opened_of g p s t (conjoined_predicates p))
-state_of_sort g p t None = None
-
-abbrev state_of : KoreSignature → KorePattern → List KorePattern → Option SymbolicState
-state_of g p (t ∷ []) = state_of_sort g p t (sort_of_term g t)
-state_of g p [] = None
-state_of g p (t ∷ u ∷ ts) = None
 
 opened_at : (g : KoreSignature) (p t : KorePattern) (s : KoreSort) → VerifiesAs g p s → conjoined_terms p ≡ t ∷ [] → opened_state g p ≡ Some (opened_of g p s t (conjoined_predicates p))
 opened_at g p t s h is = ap (state_of g p) is ∙ ap (state_of_sort g p t) (term_sort g p t s h is)

@@ -5,14 +5,14 @@ use Rattle.std.specs.List.{list_all}
 use Rattle.kp_kore.specs.Syntax.{Text, sort_variable, KoreSorts, no_sorts, next_sort, KorePattern, KorePatterns, variable, literal, application, no_patterns, next_pattern, SymbolDeclaration}
 use Rattle.kp_kore.specs.Hooks.{Hook}
 use Rattle.kp_kore.specs.Parts.{is_term, are_terms, subpatterns, all_subpatterns, sort_list, pattern_list}
-use Rattle.kp_kore.specs.Signature.{KoreSignature, SymbolMeaning, foreign, meaning_of, symbol_meaning, symbol_declared, is_identity, is_constructor, is_plain, fitting_hook}
+use Rattle.kp_kore.specs.Signature.{KoreSignature, meaning_of, symbol_declared, is_identity, is_constructor, is_plain, fitting_hook}
 use Rattle.kp_kore.specs.Sorting.{all_at_arguments}
 use Rattle.kp_kore.specs.Foreign.{none_within, has_foreign_head}
 use Rattle.kp_kore.proofs.InstanceLemmas.{first_true, second_true}
-use Rattle.kp_signature.specs.Places.{Place, Profile, argument_sorts, argument_at, after}
+use Rattle.kp_signature.specs.Places.{Place, argument_sorts, argument_at, after}
 use Rattle.kp_signature.specs.Verify.{first_fault, fault_at, arguments_fault, symbol_fault}
 use Rattle.kp_signature.proofs.Applied.{as_many}
-use Rattle.kp_signature.proofs.ApplicationLemmas.{as_many_arguments}
+use Rattle.kp_signature.proofs.ApplicationLemmas.{as_many_arguments, meaning_by}
 use Rattle.kp_signature.proofs.InjLemmas.{inj_goes_across}
 use Rattle.kp_signature.proofs.MeaningLemmas.{meaning_by_tests}
 use Rattle.kp_signature.proofs.SortedInstances.{same_rest}
@@ -20,18 +20,6 @@ use Rattle.kp_signature.proofs.FaultLemmas.{nothing_earlier, nothing_later, keep
 use Rattle.std.proofs.lemmas.List.Folds.{list_all-append}
 use Rattle.kp_compile.specs.Verified.{is_injection_meaning, misapplies_injection, IsVerifiedTerm}
 use Rattle.kp_compile.proofs.SpelledForms.{both_true}
-
-abbrev meaning_by : KoreSignature → Option SymbolDeclaration → SymbolMeaning
-meaning_by g (Some d) = symbol_meaning g d
-meaning_by g None = foreign
-
-abbrev sorts_by : KoreSorts → Option Profile → KoreSorts
-sorts_by ss (Some k) = all_at_arguments k.parameters ss k.arguments
-sorts_by ss None = no_sorts
-
-abbrev profile_by : KoreSignature → Text → Option SymbolDeclaration → Option Profile
-profile_by g f (Some d) = Some (record { parameters = d.parameters; arguments = d.arguments })
-profile_by g f None = None
 
 no_injection : (c p : Bool) (o : Option Hook) → is_injection_meaning (meaning_by_tests false c p o) ≡ false
 no_injection true p o = refl

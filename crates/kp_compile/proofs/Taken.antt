@@ -2,21 +2,22 @@
 use Rattle.std.proofs.Common.{◌≡◌, refl, sym, ap, ◌∙◌, ℕ, suc, Bool, true, false, not, ◌&&◌, List, [], ◌∷◌, length, Option, Some, None}
 use Rattle.std.specs.Prelude.{◌==◌}
 use Rattle.std.proofs.lemmas.Bool.Decides.{Decides-eqb}
-use Rattle.kp_kore.specs.Syntax.{Text, KoreSort, KoreSorts, no_sorts, next_sort, KorePatterns, application, SymbolDeclaration, AliasDeclaration}
+use Rattle.kp_kore.specs.Syntax.{Text, KoreSort, KoreSorts, no_sorts, next_sort, KorePatterns, application, SymbolDeclaration}
 use Rattle.kp_kore.specs.Parts.{sort_list, pattern_list}
 use Rattle.kp_kore.specs.Hooks.{Hook, whole_arithmetic, whole_comparison, truth_connective, truth_negation, values_equal, values_different}
-use Rattle.kp_kore.specs.Signature.{KoreSignature, SymbolMeaning, injection, construction, interpretation, foreign, meaning_of, symbol_meaning, symbol_declared, alias_declared, is_identity, is_constructor, is_plain, is_number_sort, is_truth_sort, are_two, are_one, fits_hook, fitting_hook}
+use Rattle.kp_kore.specs.Signature.{KoreSignature, injection, construction, interpretation, foreign, meaning_of, symbol_declared, alias_declared, is_identity, is_constructor, is_plain, is_number_sort, is_truth_sort, are_two, are_one, fits_hook, fitting_hook}
 use Rattle.kp_kore.specs.View.{sorts_view, patterns_view}
 use Rattle.kp_kore.specs.declared.sort.Sort.{Sort}
 use Rattle.kp_kore.specs.declared.pattern.Pattern.{Pattern}
 use Rattle.kp_kore.specs.Foreign.{has_foreign_head, has_interpreted_head, is_foreign_meaning, is_interpretation}
 use Rattle.kp_kore.proofs.InstanceLemmas.{first_true, second_true}
-use Rattle.kp_signature.specs.Places.{Profile}
 use Rattle.kp_signature.specs.Verify.{symbol_fault, wrong_number}
 use Rattle.kp_signature.proofs.Applied.{of_profile}
 use Rattle.kp_signature.proofs.KnownSorts.{number_of_sorts}
 use Rattle.kp_signature.proofs.FaultLemmas.{no_fault_unless}
 use Rattle.kp_signature.proofs.MeaningLemmas.{an_interpretation, it_fits}
+use Rattle.kp_signature.proofs.OwnSorts.{profile_by}
+use Rattle.kp_signature.proofs.ApplicationLemmas.{meaning_by}
 use Rattle.kp_kore.specs.HookView.{hook_view}
 use Rattle.kp_kore.specs.declared.hook.Hook as code
 use Rattle.kp_kore.specs.declared.hook.Hook.TheVariants as hook
@@ -49,15 +50,6 @@ fitting_number g values_equal ss r e = two_taken (λ s. true) ss (first_true (ar
 fitting_number g values_different ss r e = two_taken (λ s. true) ss (first_true (are_two (λ s. true) ss) _ e)
 
 -- ---- the declaration of an interpreted symbol
-
-abbrev meaning_by : KoreSignature → Option SymbolDeclaration → SymbolMeaning
-meaning_by g (Some d) = symbol_meaning g d
-meaning_by g None = foreign
-
-abbrev profile_by : Option SymbolDeclaration → Option AliasDeclaration → Option Profile
-profile_by (Some d) a = Some (record { parameters = d.parameters; arguments = d.arguments })
-profile_by None (Some a) = Some (record { parameters = a.parameters; arguments = a.arguments })
-profile_by None None = None
 
 declared_number : (g : KoreSignature) (f : Text) (ss : KoreSorts) (ps : KorePatterns) (d : SymbolDeclaration) → symbol_declared g f ≡ Some d → symbol_fault g (application f ss ps) ≡ None → length (sort_list d.arguments) ≡ length (pattern_list ps)
 declared_number g f ss ps d e h =

@@ -1,58 +1,33 @@
 -- What is written for the clauses that were added to a part is a predicate that says what they say.
-use Rattle.std.proofs.Common.{◌≡◌, ◌↔◌, refl, sym, ap, ◌∙◌, subst, zero, suc, arith, true, List, [], ◌∷◌, map, IsPermutation}
+use Rattle.std.proofs.Common.{◌≡◌, ◌↔◌, refl, sym, ap, ◌∙◌, subst, true, List, [], ◌∷◌, IsPermutation}
 use Rattle.std.specs.Prelude.{unwrap_or}
 use Rattle.std.specs.List.{AllByRecursion, Contains}
-use Rattle.std.proofs.lemmas.List.Elements.{All-from_recursion, recursion_from_All}
-use Rattle.std.proofs.lemmas.List.Sorted.{All-permutation, IsPermutation-sym}
+use Rattle.std.proofs.lemmas.List.Sorted.{IsPermutation-sym}
 use Rattle.kp_kore.specs.Syntax.{KoreSort, KorePattern, top, conjunction}
-use Rattle.kp_kore.specs.Parts.{SortedName, free_variables, all_free_variables, subpatterns, all_subpatterns}
+use Rattle.kp_kore.specs.Parts.{SortedName, free_variables, all_free_variables, all_subpatterns}
 use Rattle.kp_kore.specs.Signature.{KoreSignature}
 use Rattle.kp_kore.specs.Value.{truth}
 use Rattle.kp_kore.specs.Instance.{Valuation, GivesSorts, IsTrueUnder, AllTrueUnder, is_predicate}
 use Rattle.kp_kore.proofs.ListLemmas.{all_append}
 use Rattle.kp_kore.proofs.TurnLemmas.{of_member, each_member}
-use Rattle.kp_compile.proofs.SpelledMeaning.{InjectsWell}
 use Rattle.kp_symbolic.specs.Terms.{known}
-use Rattle.kp_symbolic.specs.States.{Atom, same, has_head, quoted, Literal, SymbolicState, IsLiteralTrue, IsClauseTrue, AreTrue}
+use Rattle.kp_symbolic.specs.States.{Literal, SymbolicState, IsClauseTrue, AreTrue}
 use Rattle.kp_symbolic.specs.WellFormed.{AreAtHand}
 use Rattle.kp_symbolic.specs.Writing.{written_clause, written_clauses, written_predicate}
-use Rattle.kp_symbolic_laws.specs.Runs.{IsSortedLiteral, HasRoomAtom, HasRoomClause, IsPredicateAtom, IsSoundAtom, IsWrittenAtom}
+use Rattle.kp_symbolic_laws.specs.Runs.{IsSortedLiteral, HasRoomAtom, HasRoomClause, IsPredicateAtom, IsSoundAtom}
 use Rattle.kp_symbolic_laws.proofs.WrittenForms.{clause_predicate, clauses_are_predicates}
 use Rattle.kp_symbolic_laws.proofs.WrittenStates.{clause_says}
-use Rattle.kp_symbolic_laws.proofs.WrittenUnder.{Well, well_left, well_right, well_behind}
+use Rattle.kp_symbolic_laws.proofs.WrittenUnder.{Well, well_behind}
 use Rattle.kp_symbolic_laws.proofs.WrittenVariables.{written_of_these}
+use Rattle.kp_symbolic_laws.proofs.ReadStates.{all_moved}
 use Rattle.kp_case_laws.specs.Parts.{StatePart}
 use Rattle.kp_case_laws.specs.NextStates.{IsPredicateOf}
 use Rattle.kp_outward.specs.Arranged.{AreArranged}
 use Rattle.kp_outward.specs.Errors.{InjectsIfThere}
+use Rattle.kp_outward.proofs.LawLemmas.{each_well, among_images, clause_moved, with_room, sound_predicates}
 use Rattle.kp_execute.specs.Written.{IsAddedWritten}
 
--- ---- what holds of each member
-
-pub all_moved : {X : Type 0} (P : X → Type 0) (xs ys : List X) → IsPermutation xs ys → AllByRecursion P xs → AllByRecursion P ys
-all_moved P xs ys moved all = recursion_from_All P ys (All-permutation P xs ys moved (All-from_recursion P xs all))
-
-among_images : {X Y : Type 0} (f : X → Y) (xs : List X) (y : Y) → Contains (map f xs) y → (x : X) × Contains xs x × (f x ≡ y)
-among_images f [] y (k, h, e) = absurd (omega (arith, h))
-among_images f (x ∷ xs) y (zero, h, e) = (x, (0, omega arith, refl), e)
-among_images f (x ∷ xs) y (suc k, h, e) =
-    let found = among_images f xs y (k, omega (arith, h), e) in
-    (found.0, (suc found.1.0, omega (arith, found.1.1), found.1.2), found.2)
-
 -- ---- literals that are written right
-
-sound_predicate : (g : KoreSignature) (a : Atom) → IsSoundAtom g a → IsPredicateAtom a
-sound_predicate g (same s t u) o = tt
-sound_predicate g (has_head x test) o = tt
-sound_predicate g (quoted p rs) o = o.0
-
-sound_predicates : (g : KoreSignature) (c : List Literal) → AllByRecursion (λ l. IsSoundAtom g l.atom) c → AllByRecursion (λ l. IsPredicateAtom l.atom) c
-sound_predicates g [] o = tt
-sound_predicates g (l ∷ c) o = (sound_predicate g l.atom o.0, sound_predicates g c o.1)
-
-with_room : (g : KoreSignature) (c : List Literal) → AllByRecursion (λ l. IsSoundAtom g l.atom) c → HasRoomClause g c → AllByRecursion (λ l. IsWrittenAtom g l.atom) c
-with_room g [] o m = tt
-with_room g (l ∷ c) o m = ((o.0, m.0), with_room g c o.1 m.1)
 
 -- the clauses have the sorts of their places, are of variables at hand, and each literal is written right
 pub record CanBeAdded (g : KoreSignature) (hand : List SortedName) (cs : List (List Literal)) : Type 0 where
@@ -94,17 +69,7 @@ of_hand sort hand = record { term = known (truth true); sort = sort; clauses = [
 clause_right : (g : KoreSignature) (v : Valuation) (hand : List SortedName) (sort : KoreSort) (d : List Literal) → CanBeClause g hand d → GivesSorts g v hand → Well g (written_clause g sort d) → IsTrueUnder g v (written_clause g sort d) ↔ IsClauseTrue g v d
 clause_right g v hand sort d k h w = clause_says g v (of_hand sort hand) d w h k.sorted (with_room g d k.sound k.room)
 
-clause_moved : (g : KoreSignature) (v : Valuation) (c d : List Literal) → IsPermutation c d → IsClauseTrue g v c → IsClauseTrue g v d
-clause_moved g v c d moved holds = λ none. holds (all_moved (λ l. IsLiteralTrue g v l → ⊥) d c (IsPermutation-sym c d moved) none)
-
 -- ---- clauses in order
-
-each_well : (g : KoreSignature) (sort : KoreSort) (ds : List (List Literal)) → InjectsWell g (all_subpatterns (written_clauses g sort ds)) → AllByRecursion (λ d. Well g (written_clause g sort d)) ds
-each_well g sort [] i = tt
-each_well g sort (d ∷ ds) i =
-    let these = subpatterns (written_clause g sort d) in
-    let others = all_subpatterns (written_clauses g sort ds) in
-    (well_left g these others i, each_well g sort ds (well_right g these others i))
 
 arranged_true : (g : KoreSignature) (v : Valuation) (sort : KoreSort) (cs ds : List (List Literal)) → AreArranged g sort cs ds → AreTrue g v cs → AreTrue g v ds
 arranged_true g v sort cs ds a all = each_member (IsClauseTrue g v) ds (λ d there.

@@ -22,12 +22,11 @@ use Rattle.kp_symbolic_laws.proofs.Settled.{IsSettledValue, AreSettledValues, Ha
 use Rattle.kp_symbolic_laws.proofs.Fit.{IsFit, Any}
 use Rattle.kp_symbolic_laws.proofs.OpenedSettled.{IsSettledAtom, IsSettledLiteral, AreSettledClauses}
 use Rattle.kp_symbolic_laws.proofs.SolvedSettled.{IsSettledState}
-use Rattle.kp_symbolic_laws.proofs.ReadStates.{settled_is_computed}
+use Rattle.kp_symbolic_laws.proofs.ReadStates.{settled_is_computed, all_moved}
 use Rattle.kp_outward.specs.Arranged.{AreArranged, with_clauses}
 use Rattle.kp_outward.specs.Errors.{InjectsIfThere}
 use Rattle.kp_results.specs.Results.{StateParts}
 use Rattle.kp_execute.specs.Written.{IsStateWritten, joined, pattern_of}
-use Rattle.kp_execute.proofs.AddedLemmas.{all_moved}
 use Rattle.kp_execute.proofs.JoinedLemmas.{in_two, one_well, two_computed}
 
 -- ---- values

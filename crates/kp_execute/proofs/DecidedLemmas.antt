@@ -1,5 +1,5 @@
 -- A state whose pattern has no predicates has no clauses, and has an instance where its variables have values.
-use Rattle.std.proofs.Common.{◌≡◌, refl, sym, ap, ◌∙◌, subst, arith, ℕ, zero, suc, ◌<◌, ◌≤◌, ◌+◌, ◌^◌, true, false, not, List, [], ◌∷◌, ◌++◌, map, Option, Some, None}
+use Rattle.std.proofs.Common.{◌≡◌, refl, sym, ap, ◌∙◌, subst, arith, ℕ, zero, suc, ◌<◌, ◌≤◌, ◌+◌, ◌^◌, true, not, List, [], ◌∷◌, ◌++◌, map, Option, Some, None}
 use Rattle.std.specs.Prelude.{unwrap_or}
 use Rattle.std.specs.List.{AllByRecursion, Contains, filter}
 use Rattle.std.proofs.lemmas.List.{append-nil}
@@ -18,6 +18,7 @@ use Rattle.kp_symbolic.specs.Weights.{Weight, bits, literals, product, IsBitLeng
 use Rattle.kp_symbolic.specs.Writing.{written_clause, written_predicate}
 use Rattle.kp_symbolic_laws.specs.Safe.{IsSafe}
 use Rattle.kp_symbolic_laws.proofs.SoundCourse.{safe_sound}
+use Rattle.kp_symbolic_laws.proofs.WrittenStates.{not_terms}
 use Rattle.kp_outward.specs.Arranged.{AreArranged}
 use Rattle.kp_results.specs.Results.{StateParts}
 use Rattle.kp_execute.specs.Written.{IsStateWritten, IsShown, joined, pattern_of}
@@ -29,16 +30,12 @@ right_empty : {X : Type 0} (xs ys : List X) → xs ++ ys ≡ [] → ys ≡ []
 right_empty [] ys e = e
 right_empty (x ∷ xs) ys e = absurd (cc)
 
-all_others : (qs : List KorePattern) → AllByRecursion (λ q. is_term q ≡ false) qs → AllByRecursion (λ q. not (is_term q) ≡ true) qs
-all_others [] a = tt
-all_others (q ∷ qs) a = (rw (a.0) refl, all_others qs a.1)
-
 no_member : (sort : KoreSort) (p q : KorePattern) → is_predicate q ≡ true → IsDecided (joined sort p (Some q)) → conjuncts q ≡ []
 no_member sort p q form none =
     let others = λ (r : KorePattern). not (is_term r) in
     let members : List KorePattern = conjuncts q in
     right_empty (filter others (conjuncts p)) members
-    (ap (λ zs. filter others (conjuncts p) ++ zs) (sym (filter_all others members (all_others members (no_terms q form)))) ∙ ap (λ zs. filter others (conjuncts p) ++ filter others zs) (sym (append-nil members)) ∙ sym (filter_append others (conjuncts p) (members ++ [])) ∙ none)
+    (ap (λ zs. filter others (conjuncts p) ++ zs) (sym (filter_all others members (not_terms members (no_terms q form)))) ∙ ap (λ zs. filter others (conjuncts p) ++ filter others zs) (sym (append-nil members)) ∙ sym (filter_append others (conjuncts p) (members ++ [])) ∙ none)
 
 some_of : {X : Type 0} {x : X} → Some x ≡ None → ⊥
 some_of e = cc

@@ -1,9 +1,8 @@
 -- The pattern of a state's term and predicate is one of the state.
-use Rattle.std.proofs.Common.{◌≡◌, ◌↔◌, refl, sym, ap, ◌∙◌, subst, inl, inr, true, not, List, [], ◌∷◌, ◌++◌}
+use Rattle.std.proofs.Common.{◌≡◌, ◌↔◌, refl, sym, ap, subst, inl, inr, true, not, List, [], ◌∷◌, ◌++◌}
 use Rattle.std.specs.Prelude.{Result, Ok}
-use Rattle.std.specs.List.{AllByRecursion, list_all, filter}
+use Rattle.std.specs.List.{AllByRecursion, filter}
 use Rattle.std.proofs.lemmas.List.{append-nil}
-use Rattle.std.proofs.lemmas.List.Folds.{list_all-append}
 use Rattle.kp_kore.specs.Syntax.{Text, KoreSort, KorePattern, KorePatterns, conjunction, no_patterns, next_pattern}
 use Rattle.kp_kore.specs.Parts.{is_term, free_variables, all_free_variables, subpatterns, all_subpatterns}
 use Rattle.kp_kore.specs.Signature.{KoreSignature}
@@ -11,8 +10,6 @@ use Rattle.kp_kore.specs.Value.{Value}
 use Rattle.kp_kore.specs.Instance.{Valuation, IsTrueUnder, conjuncts, all_conjuncts, IsInstanceOfOne, IsInstance, instance}
 use Rattle.kp_kore.specs.Replies.{is_open_call, is_wide_value, IsComputed}
 use Rattle.kp_kore.proofs.ListLemmas.{all_append, all_left, all_right}
-use Rattle.kp_compile.specs.Spelled.{has_two_sorts}
-use Rattle.kp_compile.proofs.SpelledForms.{both_true}
 use Rattle.kp_compile.proofs.SpelledMeaning.{InjectsWell}
 use Rattle.kp_symbolic.specs.States.{Literal, SymbolicState}
 use Rattle.kp_symbolic.specs.WellFormed.{AreAtHand}
@@ -21,6 +18,7 @@ use Rattle.kp_symbolic_laws.specs.Runs.{HasRoomClause}
 use Rattle.kp_symbolic_laws.specs.Safe.{IsSafe}
 use Rattle.kp_symbolic_laws.proofs.SoundCourse.{safe_sound}
 use Rattle.kp_symbolic_laws.proofs.WrittenUnder.{Well, well_behind}
+use Rattle.kp_symbolic_laws.proofs.WrittenStates.{joined_well}
 use Rattle.kp_case_laws.specs.NextStates.{IsPatternOf}
 use Rattle.kp_outward.specs.Arranged.{AreArranged, with_clauses}
 use Rattle.kp_outward.specs.Errors.{InjectsIfThere}
@@ -70,18 +68,12 @@ two_variables g s [] = refl
 two_variables g s (c ∷ []) = refl
 two_variables g s (c ∷ d ∷ ds) = sym (same_variables s.sort (written_term g s.sort s.term) (written_clauses g s.sort (c ∷ d ∷ ds)))
 
--- inj stands where it should, in both members
-both_well : (g : KoreSignature) (ps qs : List KorePattern) → InjectsWell g ps → InjectsWell g qs → InjectsWell g (ps ++ qs)
-both_well g ps qs (inl e) j = inl e
-both_well g ps qs (inr e) (inl f) = inl f
-both_well g ps qs (inr e) (inr f) = inr (list_all-append (λ q. not (has_two_sorts q)) ps qs ∙ both_true (list_all (λ q. not (has_two_sorts q)) ps) (list_all (λ q. not (has_two_sorts q)) qs) e f)
-
 in_front : (g : KoreSignature) (sort : KoreSort) (ps : KorePatterns) (qs : List KorePattern) → InjectsWell g qs → InjectsWell g (conjunction sort ps ∷ qs)
 in_front g sort ps qs (inl e) = inl e
 in_front g sort ps qs (inr e) = inr e
 
 flat_well : (g : KoreSignature) (sort : KoreSort) (p : KorePattern) (ps : KorePatterns) → InjectsWell g (subpatterns p) → InjectsWell g (all_subpatterns ps) → Well g (flat sort p ps)
-flat_well g sort p ps i j = in_front g sort (next_pattern p ps) (subpatterns p ++ all_subpatterns ps) (both_well g (subpatterns p) (all_subpatterns ps) i j)
+flat_well g sort p ps i j = in_front g sort (next_pattern p ps) (subpatterns p ++ all_subpatterns ps) (joined_well g (subpatterns p) (all_subpatterns ps) i j)
 
 pub one_well : (g : KoreSignature) (s : SymbolicState) (ds : List (List Literal)) → InjectsWhereItStands g (written_term g s.sort s.term) → InjectsIfThere g (written_predicate g s.sort ds) → InjectsWhereItStands g (in_one g s ds)
 one_well g s [] i j = i

@@ -4,7 +4,7 @@ ghost use Rattle.std.specs.List.{list_all};
 ghost use Rattle.std.specs.Str.{bytes_eq};
 ghost use Rattle.kp_kore.specs.View.{sorted_variable_view};
 ghost use Rattle.kp_results.specs.View.{state_view, next_view, nexts_view};
-ghost use Rattle.kp_kore.specs.Instance.{is_named};
+ghost use Rattle.kp_kore.specs.Instance.{is_named as named_among};
 ghost use Rattle.kp_symbolic.specs.View.{variable_view, variables_view};
 ghost use Rattle.kp_execute.specs.Lost.{is_kept, mentions_none_lost, parts_variables};
 ghost use Rattle.kp_execute.specs.Written.{IsShown};
@@ -12,16 +12,10 @@ ghost use Rattle.kp_execute.specs.Written.{IsShown};
 use kp_compile::conjuncts;
 use kp_kore::SortedVariable;
 use kp_results::{NextState, ReplyState};
+use kp_rules::is_named;
 use kp_symbolic::Variable;
 use std::alloc::{AllocError, Global};
 use std::sync::Arc;
-
-/// Whether the variable has this name.
-fn has_name(variable: &SortedVariable, name: &str) -> bool
-    ensures { result ≡ bytes_eq (sorted_variable_view variable.now).name name.now }
-{
-    variable.name.as_str() == name
-}
 
 /// Whether the variable at hand has this name.
 fn is_called(variable: &Variable, name: &str) -> bool
@@ -30,21 +24,9 @@ fn is_called(variable: &Variable, name: &str) -> bool
     variable.name.as_str() == name
 }
 
-/// Whether one of these variables has this name.
-fn is_shown(variables: &[SortedVariable], name: &str) -> bool
-    ensures { result ≡ is_named name.now (map sorted_variable_view variables.now) }
-{
-    for variable in variables {
-        if has_name(variable, name) {
-            return true;
-        }
-    }
-    false
-}
-
 /// Whether one of the variables at hand has this name.
 fn is_at_hand(hand: &[Arc<Variable>], name: &str) -> bool
-    ensures { result ≡ is_named name.now (variables_view hand.now) }
+    ensures { result ≡ named_among name.now (variables_view hand.now) }
 {
     for variable in hand {
         if is_called(variable, name) {
@@ -58,7 +40,7 @@ fn is_at_hand(hand: &[Arc<Variable>], name: &str) -> bool
 fn is_kept_by(hand: &[Arc<Variable>], shown: &[SortedVariable], variable: &SortedVariable) -> bool
     ensures { result ≡ is_kept (variables_view hand.now) (map sorted_variable_view shown.now) (sorted_variable_view variable.now) }
 {
-    is_shown(shown, &variable.name) || !is_at_hand(hand, &variable.name)
+    is_named(&variable.name, shown) || !is_at_hand(hand, &variable.name)
 }
 
 /// Whether each of these variables is shown or isn't at hand.

@@ -1,21 +1,20 @@
 -- The parts of a predicate without verify faults have none, and neither has the term whose head it asks for.
-use Rattle.std.proofs.Common.{◌≡◌, refl, Bool, true, false, List, [], ◌∷◌, ◌++◌, length, get_or, subst, sym, Option, Some, None, Result, Ok, Err, IfErr}
+use Rattle.std.proofs.Common.{◌≡◌, Bool, true, false, List, [], ◌∷◌, ◌++◌, length, get_or, subst, sym, Option, None, Result, Ok, Err, IfErr}
 use Rattle.std.specs.Prelude.{if◌then◌else◌}
 use Rattle.std.specs.List.{AllByRecursion}
 use Rattle.kp_compile.specs.declared.error.CompileError.{CompileError}
 use Rattle.kp_compile.specs.declared.error.CompileError.TheVariants.{Memory}
-use Rattle.kp_kore.specs.Syntax.{Text, KoreSort, KoreSorts, no_sorts, next_sort, KorePattern, KorePatterns, variable, application, negation, conjunction, disjunction, implication, equivalence, exists, forall, ceil, floor, equals, membership, no_patterns, next_pattern}
+use Rattle.kp_kore.specs.Syntax.{Text, KoreSorts, no_sorts, next_sort, KorePattern, KorePatterns, variable, application, exists, equals, no_patterns, next_pattern}
 use Rattle.kp_kore.specs.Parts.{SortedName}
 use Rattle.kp_kore.specs.Signature.{KoreSignature, SymbolMeaning, injection, construction, interpretation, foreign, meaning_of}
-use Rattle.kp_kore.specs.View.{view, patterns_view}
+use Rattle.kp_kore.specs.View.{view}
 use Rattle.kp_kore.specs.declared.pattern.Pattern.{Pattern}
 use Rattle.kp_kore.specs.Instance.{is_named}
-use Rattle.kp_signature.specs.Places.{Place, earlier, part_at, after, under_binder}
-use Rattle.kp_signature.specs.Verify.{VerifyFault, first_fault, fault_at, members_fault, first_of}
 use Rattle.kp_compile.specs.Spelled.{places_of}
 use Rattle.kp_symbolic.specs.Opening.{HeadQuestion, are_variables, question_if, asked_constructor, asked_under_inj, asked_of, head_question}
 use Rattle.kp_symbolic.specs.States.{HeadTest, one_head, head_of_sort}
 use Rattle.kp_symbolic.specs.Faultless.{IsFaultless}
+use Rattle.kp_symbolic.proofs.FaultlessParts.{of_exists, first_equal}
 use Rattle.kp_formulas.specs.Leaves.{IsFaultlessQuestion}
 
 -- an error that is want of memory under a premise is so under any that gives it
@@ -26,69 +25,6 @@ handed (Err e) f told = λ q. told (f q)
 pub both_handed : {A P Q R : Type 0} (r : Result A CompileError) → (Q → P) → (Q → R) → IfErr r (λ e. P → R → e ≡ Memory) → IfErr r (λ e. Q → e ≡ Memory)
 both_handed (Ok x) f h k = tt
 both_handed (Err e) f h k = λ q. k (f q) (h q)
-
-nothing_earlier : (a b : Option VerifyFault) → earlier a b ≡ None → a ≡ None
-nothing_earlier None b e = refl
-nothing_earlier (Some f) b e = absurd (cc)
-
-nothing_later : (a b : Option VerifyFault) → earlier a b ≡ None → b ≡ None
-nothing_later None b e = e
-nothing_later (Some f) b e = absurd (cc)
-
-second_none : (a b c : Option VerifyFault) → first_of (a ∷ b ∷ c ∷ []) ≡ None → b ≡ None
-second_none a b c h = nothing_earlier b _ (nothing_later a _ h)
-
-third_none : (a b c : Option VerifyFault) → first_of (a ∷ b ∷ c ∷ []) ≡ None → c ≡ None
-third_none a b c h = nothing_earlier c _ (nothing_later b _ (nothing_later a _ h))
-
-pub of_negation : (g : KoreSignature) (s : KoreSort) (p : KorePattern) → IsFaultless g (negation s p) → IsFaultless g p
-of_negation g s p h = record { place = part_at h.place s; faultless = nothing_later (fault_at g h.place (negation s p)) _ h.faultless }
-
-pub of_exists : (g : KoreSignature) (s : KoreSort) (x : Text) (t : KoreSort) (p : KorePattern) → IsFaultless g (exists s x t p) → IsFaultless g p
-of_exists g s x t p h = record { place = under_binder x t (part_at h.place s); faultless = nothing_later (fault_at g h.place (exists s x t p)) _ h.faultless }
-
-pub of_forall : (g : KoreSignature) (s : KoreSort) (x : Text) (t : KoreSort) (p : KorePattern) → IsFaultless g (forall s x t p) → IsFaultless g p
-of_forall g s x t p h = record { place = under_binder x t (part_at h.place s); faultless = nothing_later (fault_at g h.place (forall s x t p)) _ h.faultless }
-
-pub of_ceil : (g : KoreSignature) (a s : KoreSort) (p : KorePattern) → IsFaultless g (ceil a s p) → IsFaultless g p
-of_ceil g a s p h = record { place = part_at h.place a; faultless = nothing_later (fault_at g h.place (ceil a s p)) _ h.faultless }
-
-pub of_floor : (g : KoreSignature) (a s : KoreSort) (p : KorePattern) → IsFaultless g (floor a s p) → IsFaultless g p
-of_floor g a s p h = record { place = part_at h.place a; faultless = nothing_later (fault_at g h.place (floor a s p)) _ h.faultless }
-
-pub first_implied : (g : KoreSignature) (s : KoreSort) (p q : KorePattern) → IsFaultless g (implication s p q) → IsFaultless g p
-first_implied g s p q h = record { place = part_at h.place s; faultless = second_none (fault_at g h.place (implication s p q)) _ _ h.faultless }
-
-pub second_implied : (g : KoreSignature) (s : KoreSort) (p q : KorePattern) → IsFaultless g (implication s p q) → IsFaultless g q
-second_implied g s p q h = record { place = after p (part_at h.place s); faultless = third_none (fault_at g h.place (implication s p q)) (first_fault g (part_at h.place s) p) _ h.faultless }
-
-pub first_equivalent : (g : KoreSignature) (s : KoreSort) (p q : KorePattern) → IsFaultless g (equivalence s p q) → IsFaultless g p
-first_equivalent g s p q h = record { place = part_at h.place s; faultless = second_none (fault_at g h.place (equivalence s p q)) _ _ h.faultless }
-
-pub second_equivalent : (g : KoreSignature) (s : KoreSort) (p q : KorePattern) → IsFaultless g (equivalence s p q) → IsFaultless g q
-second_equivalent g s p q h = record { place = after p (part_at h.place s); faultless = third_none (fault_at g h.place (equivalence s p q)) (first_fault g (part_at h.place s) p) _ h.faultless }
-
-pub first_equal : (g : KoreSignature) (a s : KoreSort) (p q : KorePattern) → IsFaultless g (equals a s p q) → IsFaultless g p
-first_equal g a s p q h = record { place = part_at h.place a; faultless = second_none (fault_at g h.place (equals a s p q)) _ _ h.faultless }
-
-pub second_equal : (g : KoreSignature) (a s : KoreSort) (p q : KorePattern) → IsFaultless g (equals a s p q) → IsFaultless g q
-second_equal g a s p q h = record { place = after p (part_at h.place a); faultless = third_none (fault_at g h.place (equals a s p q)) (first_fault g (part_at h.place a) p) _ h.faultless }
-
-pub first_in : (g : KoreSignature) (a s : KoreSort) (p q : KorePattern) → IsFaultless g (membership a s p q) → IsFaultless g p
-first_in g a s p q h = record { place = part_at h.place a; faultless = second_none (fault_at g h.place (membership a s p q)) _ _ h.faultless }
-
-pub second_in : (g : KoreSignature) (a s : KoreSort) (p q : KorePattern) → IsFaultless g (membership a s p q) → IsFaultless g q
-second_in g a s p q h = record { place = after p (part_at h.place a); faultless = third_none (fault_at g h.place (membership a s p q)) (first_fault g (part_at h.place a) p) _ h.faultless }
-
-faultless_members : (g : KoreSignature) (c : Place) (ps : List Pattern) → members_fault g c (patterns_view ps) ≡ None → AllByRecursion (λ p. IsFaultless g (view p)) ps
-faultless_members g c [] h = tt
-faultless_members g c (p ∷ ps) h = (record { place = c; faultless = nothing_earlier _ _ h }, faultless_members g (after (view p) c) ps (nothing_later (first_fault g c (view p)) _ h))
-
-pub of_conjunction : (g : KoreSignature) (s : KoreSort) (ps : List Pattern) → IsFaultless g (conjunction s (patterns_view ps)) → AllByRecursion (λ p. IsFaultless g (view p)) ps
-of_conjunction g s ps h = faultless_members g (part_at h.place s) ps (nothing_later (fault_at g h.place (conjunction s (patterns_view ps))) _ h.faultless)
-
-pub of_disjunction : (g : KoreSignature) (s : KoreSort) (ps : List Pattern) → IsFaultless g (disjunction s (patterns_view ps)) → AllByRecursion (λ p. IsFaultless g (view p)) ps
-of_disjunction g s ps h = faultless_members g (part_at h.place s) ps (nothing_later (fault_at g h.place (disjunction s (patterns_view ps))) _ h.faultless)
 
 -- both of two members
 pub first_of_two : (g : KoreSignature) (ps : List Pattern) (p : Pattern) → length ps ≡ 2 → p ≡ get_or ps 0 p → AllByRecursion (λ q. IsFaultless g (view q)) ps → IsFaultless g (view p)

@@ -9,7 +9,7 @@ use Rattle.kp_kore.specs.Syntax.{Text, KoreSort, KoreSorts, no_sorts, next_sort,
 use Rattle.kp_kore.specs.Parts.{sort_list}
 use Rattle.kp_kore.specs.Signature.{KoreSignature, IsBelow, itself, through, Head, integers, booleans, tokens, constructor_of, IsHeadOf, integer_sort, boolean_sort, is_the, is_integer_sort, is_boolean_sort, is_token_sort, has_literals, symbol_declared, symbol_meaning, construction, is_constructor}
 use Rattle.kp_kore.specs.Value.{Value, whole, truth, token, constructed, Values, no_values, next_value, HasSort, HaveSorts, head_of}
-use Rattle.kp_signature.proofs.Same.{sorts_equal-Decides}
+use Rattle.kp_kore.proofs.SameLemmas.{sorts_equal-Decides}
 use Rattle.kp_signature.proofs.Below.{onwards}
 use Rattle.kp_heads.specs.Heads.{HasValue}
 use Rattle.kp_signature.proofs.MeaningLemmas.{constructor_constructs, makes_what_it_means}

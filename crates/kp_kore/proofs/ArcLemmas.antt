@@ -31,7 +31,7 @@ pub sorts_stay : (g : KoreSignature) (xs : List SortedName) (v w : Valuation) �
 sorts_stay g [] v w a s = tt
 sorts_stay g (x ∷ xs) v w a s = (subst (HasSort g x.sort) (sym a.0) s.0, sorts_stay g xs v w a.1 s.1)
 
-agrees_through : (xs : List SortedName) (u v w : Valuation) → AgreesOn xs u v → AgreesOn xs v w → AgreesOn xs u w
+pub agrees_through : (xs : List SortedName) (u v w : Valuation) → AgreesOn xs u v → AgreesOn xs v w → AgreesOn xs u w
 agrees_through [] u v w a b = tt
 agrees_through (x ∷ xs) u v w a b = (b.0 ∙ a.0, agrees_through xs u v w a.1 b.1)
 

@@ -19,8 +19,9 @@ use Rattle.kp_kore.specs.Arcs.{BranchSays}
 use Rattle.kp_kore.specs.Children.{branch_child}
 use Rattle.kp_kore.proofs.ListLemmas.{all_map, all_both, all_left, all_right, any_mapped, all_mapped, any_map_all}
 use Rattle.kp_kore.proofs.NameLemmas.{members_named, by_name, true_is_false}
-use Rattle.kp_kore.proofs.Rebased.{is_named_or, not_beyond, beyond_other, sorts_on, rebased, SeenFrom, on_state, seen_from}
+use Rattle.kp_kore.proofs.Rebased.{is_named_or, not_beyond, beyond_other, rebased, SeenFrom, on_state, seen_from}
 use Rattle.kp_kore.proofs.ConjunctionLemmas.{same_pattern_instance}
+use Rattle.kp_kore.proofs.ArcLemmas.{sorts_stay}
 
 -- the values of variables of n as they are under u, of the others as under w
 mixed : KorePattern → Valuation → Valuation → Valuation
@@ -103,7 +104,7 @@ from_node m s t leads n one only v c later sorts met child = let h : (c' : Value
     ]
 
     inner : IsOver m.signature t w n.state later
-    inner = record { chosen = mixed n.state u seen.at; agrees = off_t; sorts = sorts_on m.signature (free_variables n.state) u (mixed n.state u seen.at) on_n child.sorts; met = same_pattern_instance m.signature n.state u (mixed n.state u seen.at) later on_n child.met }
+    inner = record { chosen = mixed n.state u seen.at; agrees = off_t; sorts = sorts_stay m.signature (free_variables n.state) u (mixed n.state u seen.at) on_n child.sorts; met = same_pattern_instance m.signature n.state u (mixed n.state u seen.at) later on_n child.met }
 
     off_s : (y : Text) → is_named y (variables_beyond s t) ≡ false → w y ≡ v y
     off_s y e = elim (is_named_or y (free_variables n.state)) [
@@ -115,7 +116,7 @@ from_node m s t leads n one only v c later sorts met child = let h : (c' : Value
     ]
 
     given_s : GivesSorts m.signature w (free_variables s)
-    given_s = sorts_on m.signature (free_variables s) v w (on_state s t v w off_s) sorts
+    given_s = sorts_stay m.signature (free_variables s) v w (on_state s t v w off_s) sorts
 
     of_t : (c' : Value) → IsInstance m.signature w t c' → IsInstance m.signature v s c'
     of_t c' h = let a : IsAfter m s v 0 c' = leads.only v c' sorts (record { chosen = w; agrees = off_s; sorts = given; met = h }) in subst (IsInstance m.signature v s) (sym a.2) a.1

@@ -36,7 +36,7 @@ rule_same g labels a r q h k =
     let bodies : r.body ≡ q.body = body_same g a r.body q.body h.body k.body in
     λ i. record { id = ids i; priority = priorities i; body = bodies i }
 
-rules_same : (g : KoreSignature) (labels : List Text) (axioms : List NumberedAxiom) (rs qs : List RewriteRule) → AllZip (IsRuleOf g labels) axioms rs → AllZip (IsRuleOf g labels) axioms qs → rs ≡ qs
+pub rules_same : (g : KoreSignature) (labels : List Text) (axioms : List NumberedAxiom) (rs qs : List RewriteRule) → AllZip (IsRuleOf g labels) axioms rs → AllZip (IsRuleOf g labels) axioms qs → rs ≡ qs
 rules_same g labels [] [] [] h k = refl
 rules_same g labels [] [] (q ∷ qs) h k = absurd k
 rules_same g labels [] (r ∷ rs) qs h k = absurd h

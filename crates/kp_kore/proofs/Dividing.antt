@@ -9,7 +9,7 @@ use Rattle.kp_kore.specs.Steps.{Fires}
 use Rattle.kp_kore.specs.Cases.{OfOneAlone}
 use Rattle.kp_kore.specs.Division.{Reading, IsPartOf, IsHeldBy, Divides, Part, reading, NoneOf}
 use Rattle.kp_kore.proofs.TruthLemmas.{agrees_back}
-use Rattle.kp_kore.proofs.RunLemmas.{agrees_through}
+use Rattle.kp_kore.proofs.ArcLemmas.{agrees_through}
 
 -- ---- lists with one alone
 
@@ -25,11 +25,11 @@ none_second : {X : Type 0} (P : X → Type 0) (xs ys : List X) → AllByRecursio
 none_second P [] ys h = h
 none_second P (x ∷ xs) ys h = none_second P xs ys h.1
 
-one_then_none : {X : Type 0} (P : X → Type 0) (xs ys : List X) → OfOneAlone P xs → AllByRecursion (λ x. ¬ P x) ys → OfOneAlone P (xs ++ ys)
+pub one_then_none : {X : Type 0} (P : X → Type 0) (xs ys : List X) → OfOneAlone P xs → AllByRecursion (λ x. ¬ P x) ys → OfOneAlone P (xs ++ ys)
 one_then_none P [] ys h k = absurd h
 one_then_none P (x ∷ xs) ys h k = elim h [ inl a ↦ inl (a.0, none_append P xs ys a.1 k) | inr b ↦ inr (b.0, one_then_none P xs ys b.1 k) ]
 
-none_then_one : {X : Type 0} (P : X → Type 0) (xs ys : List X) → AllByRecursion (λ x. ¬ P x) xs → OfOneAlone P ys → OfOneAlone P (xs ++ ys)
+pub none_then_one : {X : Type 0} (P : X → Type 0) (xs ys : List X) → AllByRecursion (λ x. ¬ P x) xs → OfOneAlone P ys → OfOneAlone P (xs ++ ys)
 none_then_one P [] ys h k = k
 none_then_one P (x ∷ xs) ys h k = inr (h.0, none_then_one P xs ys h.1 k)
 

@@ -6,7 +6,7 @@ use Rattle.kp_kore.specs.Parts.{SortedName, free_variables, all_free_variables}
 use Rattle.kp_kore.specs.declared.pattern.Pattern.{Pattern}
 use Rattle.kp_kore.specs.View.{view, patterns_of, patterns_view}
 
-free_append : (ps qs : List KorePattern) → all_free_variables (patterns_of (ps ++ qs)) ≡ all_free_variables (patterns_of ps) ++ all_free_variables (patterns_of qs)
+pub free_append : (ps qs : List KorePattern) → all_free_variables (patterns_of (ps ++ qs)) ≡ all_free_variables (patterns_of ps) ++ all_free_variables (patterns_of qs)
 free_append [] qs = refl
 free_append (p ∷ ps) qs =
     ap (λ l. free_variables p ++ l) (free_append ps qs)

@@ -1,6 +1,7 @@
 -- Lists of facts.
-use Rattle.std.proofs.Common.{◌≡◌, refl, Bool, true, false, ◌⊎◌, List, [], ◌∷◌, ◌++◌, map, inl, inr}
+use Rattle.std.proofs.Common.{◌≡◌, refl, sym, ap, ◌∙◌, arith, ℕ, zero, suc, ◌+◌, ◌<◌, ◌≤◌, Bool, true, false, ◌⊎◌, List, [], ◌∷◌, ◌++◌, map, length, drop, get_or, inl, inr}
 use Rattle.std.specs.List.{AllByRecursion, filter}
+use Rattle.std.proofs.lemmas.List.{drop_more}
 use Rattle.kp_kore.specs.Steps.{AnyByRecursion}
 
 pub all_append : {X : Type 0} (P : X → Type 0) (xs ys : List X) → AllByRecursion P xs → AllByRecursion P ys → AllByRecursion P (xs ++ ys)
@@ -68,3 +69,14 @@ all_mapped f P (x ∷ xs) a = (a.0, all_mapped f P xs a.1)
 pub any_map_all : {X : Type 0} (P Q R : X → Type 0) (xs : List X) → ((x : X) → Q x → P x → R x) → AllByRecursion Q xs → AnyByRecursion P xs → AnyByRecursion R xs
 any_map_all P Q R [] f q a = absurd a
 any_map_all P Q R (x ∷ xs) f q a = elim a [ inl h ↦ inl (f x q.0 h) | inr h ↦ inr (any_map_all P Q R xs f q.1 h) ]
+
+-- ---- what is left of a list from a place on
+
+pub one_left : {X : Type 0} (xs : List X) (i : ℕ) (x : X) → i < length xs → x ≡ get_or xs i x → drop i xs ≡ x ∷ drop (i + 1) xs
+one_left xs i x h e = drop_more xs i x h ∙ ap (λ y. y ∷ drop (i + 1) xs) (sym e)
+
+pub none_left : {X : Type 0} (xs : List X) (i : ℕ) → length xs ≤ i → drop i xs ≡ []
+none_left [] zero h = refl
+none_left [] (suc i) h = refl
+none_left (x ∷ xs) zero h = absurd (omega arith)
+none_left (x ∷ xs) (suc i) h = none_left xs i (omega arith)

@@ -6,8 +6,7 @@ use Rattle.std.specs.Str.{bytes_eq}
 use Rattle.std.proofs.lemmas.Slice.Eq.{bytes_eq-Decides}
 use Rattle.kp_kore.specs.Syntax.{Text, KorePattern}
 use Rattle.kp_kore.specs.Parts.{SortedName, free_variables, variable_names}
-use Rattle.kp_kore.specs.Signature.{KoreSignature}
-use Rattle.kp_kore.specs.Value.{Value, HasSort}
+use Rattle.kp_kore.specs.Value.{Value}
 use Rattle.kp_kore.specs.Instance.{Valuation, GivesSorts, AgreesOff, AgreesOn, is_named, IsInstance}
 use Rattle.kp_kore.specs.Theory.{Theory}
 use Rattle.kp_kore.specs.Replies.{IsFreshName, IsAbsent, variables_beyond}
@@ -17,6 +16,7 @@ use Rattle.kp_kore.proofs.ConjunctionLemmas.{same_pattern_instance}
 use Rattle.kp_kore.proofs.ListLemmas.{all_map}
 use Rattle.kp_kore.proofs.NameLemmas.{members_named, by_name, true_is_false, taken_named}
 use Rattle.kp_kore.proofs.StandingNames.{free_stands_names}
+use Rattle.kp_kore.proofs.ArcLemmas.{sorts_stay}
 
 -- ---- names
 
@@ -89,17 +89,13 @@ on_child s t n v w u vw names wu = all_map (λ x. is_named x.name (free_variable
         let free : is_named y (free_variables s) ≡ true = kept_in s y (free_variables n) h e in
         back_old (variables_beyond s n) v u y e ∙ sym (vw y (not_beyond s t y free)) ∙ sym (wu y (not_absent s y (variables_beyond t n) free names))
 
-pub sorts_on : (g : KoreSignature) (xs : List SortedName) (v w : Valuation) → AgreesOn xs v w → GivesSorts g v xs → GivesSorts g w xs
-sorts_on g [] v w a s = tt
-sorts_on g (x ∷ xs) v w a s = (subst (HasSort g x.sort) (sym a.0) s.0, sorts_on g xs v w a.1 s.1)
-
 pub rebased : (m : Theory) (s t n : KorePattern) (v w : Valuation) (c : Value) → AgreesOff (variables_beyond s t) v w → HasNewNames s t n → IsOver m.signature t w n c → IsOver m.signature s v n c
 rebased m s t n v w c vw names child =
     let on : AgreesOn (free_variables n) child.chosen (back_to (variables_beyond s n) v child.chosen) = on_child s t n v w child.chosen vw names child.agrees in
     record {
       chosen = back_to (variables_beyond s n) v child.chosen;
       agrees = λ y e. back_old (variables_beyond s n) v child.chosen y e;
-      sorts = sorts_on m.signature (free_variables n) child.chosen (back_to (variables_beyond s n) v child.chosen) on child.sorts;
+      sorts = sorts_stay m.signature (free_variables n) child.chosen (back_to (variables_beyond s n) v child.chosen) on child.sorts;
       met = same_pattern_instance m.signature n child.chosen (back_to (variables_beyond s n) v child.chosen) c on child.met;
     }
 
@@ -119,4 +115,4 @@ on_state s t v w off = all_map (λ x. is_named x.name (free_variables s) ≡ tru
 
 pub seen_from : (m : Theory) (s t : KorePattern) → Leads m s t 0 → (v : Valuation) (c : Value) → GivesSorts m.signature v (free_variables s) → IsInstance m.signature v s c → SeenFrom m s t v c
 seen_from m s t leads v c sorts met = let over : IsOver m.signature s v t c = leads.found v c (sorts, tt) met c refl in
-    record { at = over.chosen; agrees = over.agrees; sorts = over.sorts; given = sorts_on m.signature (free_variables s) v over.chosen (on_state s t v over.chosen over.agrees) sorts; met = over.met }
+    record { at = over.chosen; agrees = over.agrees; sorts = over.sorts; given = sorts_stay m.signature (free_variables s) v over.chosen (on_state s t v over.chosen over.agrees) sorts; met = over.met }

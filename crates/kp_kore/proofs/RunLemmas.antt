@@ -5,8 +5,7 @@ use Rattle.std.specs.Str.{bytes_eq}
 use Rattle.std.proofs.lemmas.Slice.Eq.{bytes_eq-Decides}
 use Rattle.kp_kore.specs.Syntax.{Text, KorePattern}
 use Rattle.kp_kore.specs.Parts.{SortedName, free_variables}
-use Rattle.kp_kore.specs.Signature.{KoreSignature}
-use Rattle.kp_kore.specs.Value.{Value, HasSort}
+use Rattle.kp_kore.specs.Value.{Value}
 use Rattle.kp_kore.specs.Instance.{Valuation, GivesSorts, AgreesOn, IsInstance, is_named}
 use Rattle.kp_kore.specs.Theory.{Theory}
 use Rattle.kp_kore.specs.Steps.{StepsIn}
@@ -15,14 +14,11 @@ use Rattle.kp_kore.specs.AtHand.{HasNewNames}
 use Rattle.kp_kore.specs.Onward.{Leads}
 use Rattle.kp_kore.specs.Scopes.{Extends, LeadsIn, IsWithin, AreExtended}
 use Rattle.kp_kore.proofs.ConjunctionLemmas.{same_pattern_instance}
+use Rattle.kp_kore.proofs.ArcLemmas.{sorts_stay, agrees_through}
 
 agrees_self : (xs : List SortedName) (v : Valuation) → AgreesOn xs v v
 agrees_self [] v = tt
 agrees_self (x ∷ xs) v = (refl, agrees_self xs v)
-
-pub agrees_through : (xs : List SortedName) (u v w : Valuation) → AgreesOn xs u v → AgreesOn xs v w → AgreesOn xs u w
-agrees_through [] u v w a b = tt
-agrees_through (x ∷ xs) u v w a b = (b.0 ∙ a.0, agrees_through xs u v w a.1 b.1)
 
 no_more : (m : ℕ) → m ≡ 0 + m
 no_more m = omega arith
@@ -109,10 +105,6 @@ on_all old all v w a (x ∷ xs) h = (
     at_name : (b : Bool) → is_named x.name all ≡ b → with_named all v w x.name ≡ w x.name
     at_name true e = named_there all v w x.name e
     at_name false e = not_named_there all v w x.name e ∙ sym (agree_named old v w x.name a (kept_or_old old x (filter (λ z. not (is_named z.name old)) xs) (is_named x.name old) refl (h x.name e)))
-
-sorts_stay : (g : KoreSignature) (xs : List SortedName) (v w : Valuation) → AgreesOn xs v w → GivesSorts g v xs → GivesSorts g w xs
-sorts_stay g [] v w a s = tt
-sorts_stay g (x ∷ xs) v w a s = (subst (HasSort g x.sort) (sym a.0) s.0, sorts_stay g xs v w a.1 s.1)
 
 -- a run over a scope is one over the variables of the patterns
 pub leads_of : (t : Theory) (s s' : KorePattern) (greater : List SortedName) (d : ℕ) → IsWithin t.signature (free_variables s') greater → AreExtended t.signature s s' greater → HasNewNames s s s' →

@@ -22,10 +22,11 @@ use Rattle.kp_kore.proofs.ListLemmas.{all_append, all_left, all_right, all_map, 
 use Rattle.kp_kore.proofs.NameLemmas.{of_conjuncts, members_named, by_name, true_is_false}
 use Rattle.kp_kore.proofs.ClaimRuleLemmas.{met_of, conjunction_of}
 use Rattle.kp_kore.proofs.ClaimRuns.{none_fire}
-use Rattle.kp_kore.proofs.Rebased.{SeenFrom, seen_from, not_beyond, not_absent, kept_in, back_to, back_new, back_old, is_named_or, sorts_on}
+use Rattle.kp_kore.proofs.Rebased.{SeenFrom, seen_from, not_beyond, not_absent, kept_in, back_to, back_new, back_old, is_named_or}
 use Rattle.kp_kore.proofs.ConjunctionLemmas.{same_pattern_instance}
 use Rattle.kp_kore.proofs.Branching.{fresh_from}
 use Rattle.kp_kore.proofs.Conjuncts.{filter_append, filter_twice, filter_other, filter_none, filter_all, single, no_terms, of_truth, conjuncts_listed}
+use Rattle.kp_kore.proofs.ArcLemmas.{sorts_stay}
 
 -- ---- the child
 
@@ -127,7 +128,7 @@ in_part : (m : Theory) (sort : KoreSort) (s t q term : KorePattern) (v : Valuati
 in_part m sort s t q term v c one pred names sorts met w vw part = record {
   chosen = chosen;
   agrees = λ y e. back_old beyond v part.chosen y e;
-  sorts = of_child (λ x. HasSort m.signature x.sort (chosen x.name)) sort s q (sorts_on m.signature (free_variables s) v chosen on_s sorts) (sorts_on m.signature (free_variables q) part.chosen chosen on_q part.sorts);
+  sorts = of_child (λ x. HasSort m.signature x.sort (chosen x.name)) sort s q (sorts_stay m.signature (free_variables s) v chosen on_s sorts) (sorts_stay m.signature (free_variables q) part.chosen chosen on_q part.sorts);
   met = child_met m.signature chosen sort s q term c pred one (same_pattern_instance m.signature s v chosen c on_s met) ((same_truth m.signature q part.chosen chosen on_q).0 part.holds);
 }
   where
@@ -184,7 +185,7 @@ a_case : (m : Theory) (c : Value) (rs : List RewriteRule) → AnyByRecursion (λ
 a_case m c [] a = absurd a
 a_case m c (r ∷ rs) a = elim a [ inl h ↦ (r.id, inl (refl, h)) | inr h ↦ let rest : (id : Text) × AnyByRecursion (λ r. (r.id ≡ id) × HasTurn m r c) rs = a_case m c rs h in (rest.0, inr rest.1) ]
 
-any_of_one : {X : Type 0} (P : X → Type 0) (xs : List X) → OfOneAlone P xs → AnyByRecursion P xs
+pub any_of_one : {X : Type 0} (P : X → Type 0) (xs : List X) → OfOneAlone P xs → AnyByRecursion P xs
 any_of_one P [] h = h
 any_of_one P (x ∷ xs) h = elim h [ inl a ↦ inl a.0 | inr b ↦ inr (any_of_one P xs b.1) ]
 

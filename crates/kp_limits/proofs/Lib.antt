@@ -1,3 +1,4 @@
+pub mod FirstAlong
 pub mod NameCounts
 pub mod NameLemmas
 pub mod OverLemmas

@@ -1,24 +1,15 @@
 -- Weights summed and multiplied along clauses.
-use Rattle.std.proofs.Common.{◌≡◌, refl, sym, ap, ◌∙◌, arith, ℕ, zero, suc, ◌+◌, ◌*◌, ◌<◌, ◌≤◌, List, [], ◌∷◌, map, length, drop, get_or, Vec}
+use Rattle.std.proofs.Common.{◌≡◌, refl, sym, ap, ◌∙◌, arith, ℕ, ◌+◌, ◌*◌, ◌<◌, ◌≤◌, List, map, length, drop, get_or, Vec}
 use Rattle.std.specs.Option.{option_map}
 use Rattle.std.specs.declared.alloc.Global.{Global}
-use Rattle.std.proofs.lemmas.List.{drop_more}
 use Rattle.std.proofs.Math.Nat.{mul-one, one-mul}
+use Rattle.kp_kore.proofs.ListLemmas.{one_left, none_left}
 use Rattle.kp_symbolic.specs.Weights as model
 use Rattle.kp_literals.specs.Forms.{form_view}
 use Rattle.kp_literals.specs.Readings.{read_view, clauses_view}
 use Rattle.kp_limits.specs.Told.{told}
 use Rattle.kp_literals.specs.declared.reading.ReadLiteral.{ReadLiteral}
 use Rattle.kp_limits.proofs.ToldLemmas.{told_plus, told_more, told_times, told_twice}
-
-one_left : {X : Type 0} (xs : List X) (i : ℕ) (x : X) → i < length xs → x ≡ get_or xs i x → drop i xs ≡ x ∷ drop (i + 1) xs
-one_left xs i x h e = drop_more xs i x h ∙ ap (λ y. y ∷ drop (i + 1) xs) (sym e)
-
-none_left : {X : Type 0} (xs : List X) (i : ℕ) → length xs ≤ i → drop i xs ≡ []
-none_left [] zero h = refl
-none_left [] (suc i) h = refl
-none_left (x ∷ xs) zero h = absurd (omega arith)
-none_left (x ∷ xs) (suc i) h = none_left xs i (omega arith)
 
 plus_none : (s : ℕ) → s ≡ s + 0
 plus_none s = omega arith

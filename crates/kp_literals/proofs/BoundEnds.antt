@@ -1,9 +1,10 @@
 -- The ends and steps of walks over clauses and their bounds.
-use Rattle.std.proofs.Common.{◌≡◌, refl, sym, ap, subst, ◌∙◌, arith, ℕ, zero, suc, ◌+◌, ◌<◌, ◌≤◌, max, List, [], ◌∷◌, ◌++◌, map, length, drop, get_or, Vec}
+use Rattle.std.proofs.Common.{◌≡◌, refl, sym, ap, subst, ◌∙◌, ℕ, ◌+◌, ◌<◌, ◌≤◌, max, List, [], ◌∷◌, ◌++◌, map, length, drop, get_or, Vec}
 use Rattle.std.specs.Prelude.{unsigned_abs}
 use Rattle.std.specs.List.{flat_map}
 use Rattle.std.specs.declared.alloc.Global.{Global}
 use Rattle.std.proofs.lemmas.List.{drop_more}
+use Rattle.kp_kore.proofs.ListLemmas.{none_left}
 use Rattle.kp_symbolic.specs.Weights.{DifferenceBound, IsBitLength, largest, all_bounds}
 use Rattle.kp_literals.specs.Bounds.{difference_view, clause_bounds}
 use Rattle.kp_literals.specs.Readings.{clauses_view}
@@ -11,12 +12,6 @@ use Rattle.kp_literals.specs.declared.bounds.Difference.{Difference}
 use Rattle.kp_literals.specs.declared.reading.ReadLiteral.{ReadLiteral}
 use Rattle.kp_literals.proofs.BoundLemmas.{clause_by_clause}
 use Rattle.kp_literals.proofs.LengthLemmas.{Longest, longest_more}
-
-none_left : {X : Type 0} (xs : List X) (i : ℕ) → length xs ≤ i → drop i xs ≡ []
-none_left [] zero h = refl
-none_left [] (suc i) h = refl
-none_left (x ∷ xs) zero h = absurd (omega arith)
-none_left (x ∷ xs) (suc i) h = none_left xs i (omega arith)
 
 behind_none : {X : Type 0} (xs : List X) → xs ++ [] ≡ xs
 behind_none [] = refl

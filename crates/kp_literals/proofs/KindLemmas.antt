@@ -2,11 +2,12 @@
 use Rattle.std.proofs.Common.{◌≡◌, refl, sym, ap, subst, ◌∙◌, arith, ℕ, zero, suc, ◌<◌, Bool, true, false, not, ◌&&◌, ◌||◌, cond, List, [], ◌∷◌, ◌++◌, map, length, slice_index_or, Option, Some, None}
 use Rattle.std.specs.Prelude.{if◌then◌else◌}
 use Rattle.std.specs.List.{filter, list_all, list_any}
-use Rattle.kp_kore.specs.Syntax.{Text, KoreSort, SymbolDeclaration}
+use Rattle.kp_kore.specs.Syntax.{KoreSort, SymbolDeclaration}
 use Rattle.kp_kore.specs.Attributes.{sorts_equal}
 use Rattle.kp_kore.specs.Signature.{KoreSignature, Head, integers, booleans, tokens, constructor_of, is_the, is_integer_sort, is_boolean_sort, is_own_below, is_head, are_numbers, are_truths, has_only_numbers, has_only_truths, is_number_sort, is_truth_sort, IsBelow, is_below, itself, through}
+use Rattle.kp_kore.proofs.SameLemmas.{sorts_equal-Decides}
 use Rattle.kp_signature.proofs.Below.{is_below-Decides}
-use Rattle.kp_signature.proofs.Same.{sorts_equal-Decides}
+use Rattle.kp_signature.proofs.AloneLemmas.{constructors_step, by_both}
 use Rattle.kp_symbolic.specs.Plain.{is_tokens_of, are_tokens_of_one, has_only_tokens}
 use Rattle.kp_literals.specs.Kinds.{lower_sorts, lowers, some_below, no_tokens_among, no_constructors_among, are_other, tokens_are, one_kind_of_tokens}
 
@@ -23,16 +24,6 @@ tokens_step are keep zs n (t ∷ ts) = by (keep (tokens t)) (tokens_step are kee
     by : (b : Bool) → are (filter keep (map tokens ts ++ zs)) ≡ list_all (λ u. not (keep (tokens u))) ts && are (filter keep zs) →
         are (cond b (tokens t ∷ filter keep (map tokens ts ++ zs)) (filter keep (map tokens ts ++ zs))) ≡ (not b && list_all (λ u. not (keep (tokens u))) ts) && are (filter keep zs)
     by true e = n t (filter keep (map tokens ts ++ zs))
-    by false e = e
-
-constructors_step : (are : List Head → Bool) (keep : Head → Bool) → are [] ≡ true → ((c : Text) (hs : List Head) → are (constructor_of c ∷ hs) ≡ false) → (ds : List SymbolDeclaration) →
-    are (filter keep (map (λ d. constructor_of d.name) ds)) ≡ list_all (λ d. not (keep (constructor_of d.name))) ds
-constructors_step are keep z n [] = z
-constructors_step are keep z n (d ∷ ds) = by (keep (constructor_of d.name)) (constructors_step are keep z n ds)
-  where
-    by : (b : Bool) → are (filter keep (map (λ e. constructor_of e.name) ds)) ≡ list_all (λ e. not (keep (constructor_of e.name))) ds →
-        are (cond b (constructor_of d.name ∷ filter keep (map (λ e. constructor_of e.name) ds)) (filter keep (map (λ e. constructor_of e.name) ds))) ≡ not b && list_all (λ e. not (keep (constructor_of e.name))) ds
-    by true e = n d.name (filter keep (map (λ f. constructor_of f.name) ds))
     by false e = e
 
 numbers_first : (hs : List Head) (a b o : Bool) → are_numbers hs ≡ o →
@@ -102,11 +93,6 @@ pub tokens_are_all : (g : KoreSignature) (s : KoreSort) → not (is_head g s int
 tokens_are_all g s = sym (tokens_first (filter (is_head g s) (map tokens (lowers g s) ++ constructors_in g)) (is_head g s integers) (is_head g s booleans) (one_kind_of_tokens g s (lowers g s) && no_constructors_among g s g.symbols) (one_kind g s (lowers g s)))
 
 -- ---- the sorts of whole numbers and of truth values
-
-by_both : (b c : Bool) → (b ≡ true → c ≡ true) → (c ≡ true → b ≡ true) → b ≡ c
-by_both true c f h = sym (f refl)
-by_both false true f h = h refl
-by_both false false f h = refl
 
 both_true : (b c : Bool) → b && c ≡ true → (b ≡ true) × (c ≡ true)
 both_true true c e = (refl, e)

@@ -73,7 +73,7 @@ pub one_more_plain : (ss : List Sentence) (i : ℕ) (s : Sentence) → i < lengt
     AllByRecursion (λ t. is_declaration t ≡ false) (map sentence_view (take (i + 1) ss))
 one_more_plain ss i s h e old own = subst (AllByRecursion (λ t. is_declaration t ≡ false)) (sym (sentences_further ss i s h e)) (all_append (λ t. is_declaration t ≡ false) (map sentence_view (take i ss)) (sentence_view s ∷ []) old (own, tt))
 
-sentences_parted : (ss : List Sentence) (i : ℕ) (d : Sentence) → i < length ss → map sentence_view ss ≡ map sentence_view (take i ss) ++ sentence_view (get_or ss i d) ∷ map sentence_view (drop (suc i) ss)
+pub sentences_parted : (ss : List Sentence) (i : ℕ) (d : Sentence) → i < length ss → map sentence_view ss ≡ map sentence_view (take i ss) ++ sentence_view (get_or ss i d) ∷ map sentence_view (drop (suc i) ss)
 sentences_parted [] i d h = absurd (omega (arith, h))
 sentences_parted (a ∷ rest) zero d h = refl
 sentences_parted (a ∷ rest) (suc i) d h = ap (λ l. sentence_view a ∷ l) (sentences_parted rest i d (omega arith))

@@ -2,8 +2,7 @@
 use Rattle.std.proofs.Common.{◌≡◌, ◌↔◌, refl, sym, subst, inl, inr, zero, suc, List, [], ◌∷◌, ◌++◌, map, arith, IsPermutation}
 use Rattle.std.specs.Prelude.{Result, Ok, Err, IfOk, ⊤}
 use Rattle.std.specs.List.{AllByRecursion, Contains}
-use Rattle.std.proofs.lemmas.List.Elements.{All-from_recursion, recursion_from_All, All-contains, All-contains_itself, All-weaker}
-use Rattle.std.proofs.lemmas.List.Sorted.{All-permutation, IsPermutation-sym}
+use Rattle.std.proofs.lemmas.List.Sorted.{IsPermutation-sym}
 use Rattle.kp_kore.specs.Syntax.{KoreSort, KorePattern, conjunction, next_pattern}
 use Rattle.kp_kore.specs.Parts.{free_variables, subpatterns, all_subpatterns}
 use Rattle.kp_kore.specs.Signature.{KoreSignature, injection, meaning_of}
@@ -14,25 +13,17 @@ use Rattle.kp_compile.proofs.SpelledMeaning.{InjectsWell}
 use Rattle.kp_symbolic.specs.States.{Atom, same, has_head, quoted, Literal, SymbolicState, IsLiteralTrue, IsClauseTrue, AreTrue, IsStateInstance}
 use Rattle.kp_symbolic.specs.WellFormed.{AreAtHand}
 use Rattle.kp_symbolic.specs.Writing.{InjectsWhereItStands, IsSaid, written_term, written_clause, written_clauses, written_state}
-use Rattle.kp_symbolic.proofs.Written.{clause_said, clauses_said}
+use Rattle.kp_symbolic.proofs.Written.{clause_said, clauses_said, injects_right, injects_left}
 use Rattle.kp_symbolic_laws.specs.Runs.{IsSortedLiteral, IsSortedState, HasRoomClause, IsPredicateAtom, IsSoundAtom, IsSoundState, IsWrittenAtom}
 use Rattle.kp_symbolic_laws.proofs.WrittenStates.{clause_says, state_says as written_state_says}
-use Rattle.kp_symbolic_laws.proofs.WrittenUnder.{Well, well_left, well_right, well_behind}
+use Rattle.kp_symbolic_laws.proofs.WrittenUnder.{Well, well_behind}
 use Rattle.kp_symbolic_laws.proofs.WrittenVariables.{state_of_these}
+use Rattle.kp_symbolic_laws.proofs.ReadStates.{all_moved, of_members, at_member}
 use Rattle.kp_outward.specs.Arranged.{AreArranged, with_clauses}
 
 -- ---- what holds of each member
 
-all_moved : {X : Type 0} (P : X → Type 0) (xs ys : List X) → IsPermutation xs ys → AllByRecursion P xs → AllByRecursion P ys
-all_moved P xs ys moved all = recursion_from_All P ys (All-permutation P xs ys moved (All-from_recursion P xs all))
-
-at_member : {X : Type 0} (P : X → Type 0) (xs : List X) (x : X) → AllByRecursion P xs → Contains xs x → P x
-at_member P xs x all there = All-contains P xs x (All-from_recursion P xs all) there
-
-of_members : {X : Type 0} (P : X → Type 0) (xs : List X) → ((x : X) → Contains xs x → P x) → AllByRecursion P xs
-of_members P xs each = recursion_from_All P xs (All-weaker (Contains xs) P each xs (All-contains_itself xs))
-
-among_images : {X Y : Type 0} (f : X → Y) (xs : List X) (y : Y) → Contains (map f xs) y → (x : X) × Contains xs x × (f x ≡ y)
+pub among_images : {X Y : Type 0} (f : X → Y) (xs : List X) (y : Y) → Contains (map f xs) y → (x : X) × Contains xs x × (f x ≡ y)
 among_images f [] y (k, h, e) = absurd (omega (arith, h))
 among_images f (x ∷ xs) y (zero, h, e) = (x, (0, omega arith, refl), e)
 among_images f (x ∷ xs) y (suc k, h, e) =
@@ -41,7 +32,7 @@ among_images f (x ∷ xs) y (suc k, h, e) =
 
 -- ---- clauses
 
-clause_moved : (g : KoreSignature) (v : Valuation) (c d : List Literal) → IsPermutation c d → IsClauseTrue g v c → IsClauseTrue g v d
+pub clause_moved : (g : KoreSignature) (v : Valuation) (c d : List Literal) → IsPermutation c d → IsClauseTrue g v c → IsClauseTrue g v d
 clause_moved g v c d moved holds = λ none. holds (all_moved (λ l. IsLiteralTrue g v l → ⊥) d c (IsPermutation-sym c d moved) none)
 
 -- what is written for each literal says what it says
@@ -101,12 +92,12 @@ arranged_sorted g s ds w a = record {
   one_sort_each = w.one_sort_each;
 }
 
-each_well : (g : KoreSignature) (sort : KoreSort) (ds : List (List Literal)) → InjectsWell g (all_subpatterns (written_clauses g sort ds)) → AllByRecursion (λ d. Well g (written_clause g sort d)) ds
+pub each_well : (g : KoreSignature) (sort : KoreSort) (ds : List (List Literal)) → InjectsWell g (all_subpatterns (written_clauses g sort ds)) → AllByRecursion (λ d. Well g (written_clause g sort d)) ds
 each_well g sort [] i = tt
 each_well g sort (d ∷ ds) i =
     let these = subpatterns (written_clause g sort d) in
     let others = all_subpatterns (written_clauses g sort ds) in
-    (well_left g these others i, each_well g sort ds (well_right g these others i))
+    (injects_left g these others i, each_well g sort ds (injects_right g these others i))
 
 -- inj is what it should be in the clauses of what is written
 clauses_well : (g : KoreSignature) (s : SymbolicState) (cs : List (List Literal)) → s.clauses ≡ cs → Well g (written_state g s) → InjectsWell g (all_subpatterns (written_clauses g s.sort cs))
@@ -115,7 +106,7 @@ clauses_well g s (c ∷ cs) e j =
     let term = subpatterns (written_term g s.sort s.term) in
     let others = all_subpatterns (written_clauses g s.sort (c ∷ cs)) in
     let p = conjunction s.sort (next_pattern (written_term g s.sort s.term) (written_clauses g s.sort (c ∷ cs))) in
-    well_right g term others (well_behind g p (term ++ others) (subst (Well g) (several s e) j))
+    injects_right g term others (well_behind g p (term ++ others) (subst (Well g) (several s e) j))
   where
     several : (s : SymbolicState) → s.clauses ≡ c ∷ cs → written_state g s ≡ conjunction s.sort (next_pattern (written_term g s.sort s.term) (written_clauses g s.sort (c ∷ cs)))
     several s e = rw e refl
@@ -145,7 +136,7 @@ sound_predicate g (same s t u) o = tt
 sound_predicate g (has_head x test) o = tt
 sound_predicate g (quoted p rs) o = o.0
 
-sound_predicates : (g : KoreSignature) (c : List Literal) → AllByRecursion (λ l. IsSoundAtom g l.atom) c → AllByRecursion (λ l. IsPredicateAtom l.atom) c
+pub sound_predicates : (g : KoreSignature) (c : List Literal) → AllByRecursion (λ l. IsSoundAtom g l.atom) c → AllByRecursion (λ l. IsPredicateAtom l.atom) c
 sound_predicates g [] o = tt
 sound_predicates g (l ∷ c) o = (sound_predicate g l.atom o.0, sound_predicates g c o.1)
 
@@ -153,7 +144,7 @@ all_sound_predicates : (g : KoreSignature) (cs : List (List Literal)) → AllByR
 all_sound_predicates g [] o = tt
 all_sound_predicates g (c ∷ cs) o = (sound_predicates g c o.0, all_sound_predicates g cs o.1)
 
-with_room : (g : KoreSignature) (c : List Literal) → AllByRecursion (λ l. IsSoundAtom g l.atom) c → HasRoomClause g c → AllByRecursion (λ l. IsWrittenAtom g l.atom) c
+pub with_room : (g : KoreSignature) (c : List Literal) → AllByRecursion (λ l. IsSoundAtom g l.atom) c → HasRoomClause g c → AllByRecursion (λ l. IsWrittenAtom g l.atom) c
 with_room g [] o m = tt
 with_room g (l ∷ c) o m = ((o.0, m.0), with_room g c o.1 m.1)
 

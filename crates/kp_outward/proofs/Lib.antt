@@ -1,7 +1,6 @@
 pub mod ArrangedLemmas
 pub mod BoundLemmas
 pub mod FaultlessLemmas
-pub mod FaultlessTerms
 pub mod FreshLemmas
 pub mod InjectionLemmas
 pub mod JoinedLemmas

@@ -1,7 +1,7 @@
 -- What is read of a text by its front: an object has the member that its text begins with; an array tells no reply.
 use Rattle.std.proofs.Common.{◌≡◌, ℕ, List, [], ◌∷◌, ◌++◌, length, Bool, true, false, Option, Some, None, option_map, option_and_then, refl, sym, ap, ap₂, ◌∙◌, append_assoc}
 use Rattle.std.proofs.lemmas.Slice.Eq.{bytes_eq-Decides}
-use Rattle.std.specs.Prelude.{ℤ, codes, if◌then◌else◌}
+use Rattle.std.specs.Prelude.{ℤ, codes}
 use Rattle.std.specs.Str.{bytes_eq}
 use Rattle.json.specs.Token.{Token, begin_object, begin_array, key, string}
 use Rattle.json.specs.Lex.{Lexeme, token, colon, string_token, lex, between, fresh, punctuate, tokens}
@@ -19,6 +19,7 @@ use Rattle.kp_replies.specs.Failures.{failed_reply}
 use Rattle.kp_replies.specs.Read.{Method, ServerReply, failed, read_either, is_two, text_in, read_reply}
 use Rattle.kp_replies.specs.Replies.{IsReplyOf}
 use Rattle.kp_replies.proofs.Lines.{same_front}
+use Rattle.kp_replies.proofs.Methods.{present, if_holds}
 
 from_some : {A : Type 0} (x y : A) → Some x ≡ Some y → x ≡ y
 from_some x y e = cc e
@@ -27,13 +28,9 @@ mapped : {A B : Type 0} (f : A → B) (x : Option A) (b : B) → option_map f x 
 mapped f None b e = absurd (cc e)
 mapped f (Some a) b e = (a, refl, cc e)
 
-present : {A B : Type 0} (f : A → Option B) (x : Option A) (b : B) → option_and_then f x ≡ Some b → (a : A) × (x ≡ Some a) × (f a ≡ Some b)
-present f None b e = absurd (cc e)
-present f (Some a) b e = (a, refl, e)
-
 -- ---- the first member of an object
 
-lex_quoted : (s r : List ℕ) → lex between (quoted s ++ r) ≡ token (string s) ∷ lex between r
+pub lex_quoted : (s r : List ℕ) → lex between (quoted s ++ r) ≡ token (string s) ∷ lex between r
 unfolding lex
 lex_quoted s r =
     let e = append_assoc (escape s) (34 ∷ []) r in
@@ -134,10 +131,6 @@ first_bracket r d e =
 
 -- ---- replies
 
-if_true : (b : Bool) (x : Option ServerReply) (r : ServerReply) → (if b then x else None) ≡ Some r → x ≡ Some r
-if_true true x r e = e
-if_true false x r e = absurd (cc e)
-
 error_alone : (method : Method) (x y : Option Data) (error : Data) (r : ServerReply) → x ≡ Some error → read_either method x y ≡ Some r → (code : ℤ) × (r ≡ failed code)
 error_alone method None y error r has e = absurd (cc has)
 error_alone method (Some z) (Some result) error r has e = absurd (cc e)
@@ -148,7 +141,7 @@ pub error_tells : (method : Method) (id : RequestId) (error : Data) (r : ServerR
 error_tells method id error r (text, is, (d, frame, tells)) =
     let one : compact_text (failed_reply id error) ≡ text = same_front (compact_text (failed_reply id error)) text is in
     let has = first_member (codes "error") _ d (ap read one ∙ frame.reads) in
-    error_alone method (get (codes "error") d) (get (codes "result") d) has.0 r has.1 (if_true (is_two (text_in (get (codes "jsonrpc") d))) _ r tells)
+    error_alone method (get (codes "error") d) (get (codes "result") d) has.0 r has.1 (if_holds (is_two (text_in (get (codes "jsonrpc") d))) _ r tells)
 
 -- the line of an array tells nothing
 pub array_tells : (method : Method) (ds : Items) (r : ServerReply) → IsReplyOf method (reply_bytes (array ds)) r → ⊥

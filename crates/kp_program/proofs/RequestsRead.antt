@@ -18,6 +18,7 @@ use Rattle.kp_rpc.proofs.ParamsRead.{params_found, sides_found, side_told}
 use Rattle.kp_rpc.proofs.IdsRead.{id_read}
 use Rattle.kp_requests.specs.Requests.{Request, execute, implies, simplify, add_module, asks, refused, Call, single}
 use Rattle.kp_requests.specs.Calls.{asked_of, call_from, is_two, or_invalid_params, read_call, read_call_id, read_execute, read_flag, read_implies, read_simplify, read_add_module, read_batch, read_frame}
+use Rattle.kp_replies.proofs.Methods.{present}
 
 from_some : {A : Type 0} (x y : A) → Some x ≡ Some y → x ≡ y
 from_some x y e = cc e
@@ -25,10 +26,6 @@ from_some x y e = cc e
 mapped : {A B : Type 0} (f : A → B) (x : Option A) (b : B) → option_map f x ≡ Some b → (a : A) × (x ≡ Some a) × (f a ≡ b)
 mapped f None b e = absurd (cc e)
 mapped f (Some a) b e = (a, refl, cc e)
-
-present : {A B : Type 0} (f : A → Option B) (x : Option A) (b : B) → option_and_then f x ≡ Some b → (a : A) × (x ≡ Some a) × (f a ≡ Some b)
-present f None b e = absurd (cc e)
-present f (Some a) b e = (a, refl, e)
 
 -- ---- calls
 

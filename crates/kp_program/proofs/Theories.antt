@@ -5,9 +5,8 @@ use Rattle.std.specs.List.{AllZip}
 use Rattle.std.specs.Str.{bytes_eq}
 use Rattle.kp_kore.specs.Syntax.{Text, KoreModule, KoreDefinition}
 use Rattle.kp_kore.specs.Signature.{KoreSignature}
-use Rattle.kp_kore.specs.Rules.{RuleBody, rewrite, foreign_rule, RewriteRule}
-use Rattle.kp_kore.specs.Foreign.{Reads}
 use Rattle.kp_kore.specs.Theory.{Theory, NumberedAxiom, IsRuleOf, IsTheoryOfAxioms, labels_of, modules_reached, rewrite_axioms}
+use Rattle.kp_kore.proofs.ClaimTheories.{rules_same}
 use Rattle.kp_book.specs.Books.{Opening, Registration, rules_in, first_of, rules_bound, meaning_in}
 use Rattle.kp_modules.specs.Openings as openings
 use Rattle.kp_modules.specs.Openings.{bound_in, opening_of}
@@ -21,30 +20,6 @@ from_some : {A : Type 0} (x y : A) → Some x ≡ Some y → x ≡ y
 from_some x y e = cc e
 
 -- ---- one theory
-
-body_same : (g : KoreSignature) (a : NumberedAxiom) (b c : RuleBody) → Reads g a.axiom_of.parameters a.axiom_of.attributes a.axiom_of.pattern b → Reads g a.axiom_of.parameters a.axiom_of.attributes a.axiom_of.pattern c → b ≡ c
-body_same g a (rewrite x) (rewrite y) r q = ap rewrite (from_some x y (sym r.shape ∙ q.shape))
-body_same g a (rewrite x) (foreign_rule l) r q = absurd (q.1 x r)
-body_same g a (foreign_rule l) (rewrite y) r q = absurd (r.1 y q)
-body_same g a (foreign_rule l) (foreign_rule m) r q = ap foreign_rule (from_some l m (sym r.0 ∙ q.0))
-
-rule_same : (g : KoreSignature) (labels : List Text) (a : NumberedAxiom) (r q : RewriteRule) → IsRuleOf g labels a r → IsRuleOf g labels a q → r ≡ q
-rule_same g labels a r q h k =
-    let ids : r.id ≡ q.id = h.id ∙ sym k.id in
-    let priorities : r.priority ≡ q.priority = h.priority ∙ sym k.priority in
-    let bodies : r.body ≡ q.body = body_same g a r.body q.body h.body k.body in
-    λ i. record { id = ids i; priority = priorities i; body = bodies i }
-
-rules_same : (g : KoreSignature) (labels : List Text) (axioms : List NumberedAxiom) (rs qs : List RewriteRule) → AllZip (IsRuleOf g labels) axioms rs → AllZip (IsRuleOf g labels) axioms qs → rs ≡ qs
-rules_same g labels [] [] [] h k = refl
-rules_same g labels [] [] (q ∷ qs) h k = absurd k
-rules_same g labels [] (r ∷ rs) qs h k = absurd h
-rules_same g labels (a ∷ more) [] qs h k = absurd h
-rules_same g labels (a ∷ more) (r ∷ rs) [] h k = absurd k
-rules_same g labels (a ∷ more) (r ∷ rs) (q ∷ qs) h k =
-    let x : r ≡ q = rule_same g labels a r q h.0 k.0 in
-    let xs : rs ≡ qs = rules_same g labels more rs qs h.1 k.1 in
-    λ i. x i ∷ xs i
 
 theory_same : (g : KoreSignature) (axioms : List NumberedAxiom) (t u : Theory) → IsTheoryOfAxioms g axioms t → IsTheoryOfAxioms g axioms u → t ≡ u
 theory_same g axioms t u h k =

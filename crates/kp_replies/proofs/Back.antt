@@ -102,7 +102,7 @@ state_is : (x : ExecutedParts) (y : Option Data) (tree : Data) → option_and_th
 state_is x None tree e = absurd (cc e)
 state_is x (Some s) tree e = (s, refl, e)
 
-items_are : (x : Option Items) (o : Members) (tree : Data) → option_map object (option_map (λ ds. put (codes "next-states") (array ds) o) x) ≡ Some tree → (ds : Items) × (x ≡ Some ds) × (object (put (codes "next-states") (array ds) o) ≡ tree)
+pub items_are : (x : Option Items) (o : Members) (tree : Data) → option_map object (option_map (λ ds. put (codes "next-states") (array ds) o) x) ≡ Some tree → (ds : Items) × (x ≡ Some ds) × (object (put (codes "next-states") (array ds) o) ≡ tree)
 items_are None o tree e = absurd (cc e)
 items_are (Some ds) o tree e = (ds, refl, same (object (put (codes "next-states") (array ds) o)) tree e)
 

@@ -1,6 +1,6 @@
 pub mod AbortedBack
 pub mod Alone
-mod Back
+pub mod Back
 pub mod ErrorLines
 pub mod Lines
 pub mod Methods

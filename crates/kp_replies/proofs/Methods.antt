@@ -13,7 +13,7 @@ use Rattle.kp_replies.specs.Read.{Method, execute, implies, simplify, add_module
 use Rattle.kp_replies.specs.Replies.{IsOfMethod, IsSpelled, IsSpelledState, StandWith, IsNamedEnding, IsReplyOf}
 use Rattle.kp_replies.proofs.PatternsRead.{spelled_in}
 
-present : {A B : Type 0} (f : A → Option B) (x : Option A) (b : B) → option_and_then f x ≡ Some b → (a : A) × (x ≡ Some a) × (f a ≡ Some b)
+pub present : {A B : Type 0} (f : A → Option B) (x : Option A) (b : B) → option_and_then f x ≡ Some b → (a : A) × (x ≡ Some a) × (f a ≡ Some b)
 present f None b e = absurd (cc e)
 present f (Some a) b e = (a, refl, e)
 
@@ -35,7 +35,7 @@ error_of_method method error r e =
     subst (IsOfMethod method) c.2 (code_of_method method c.0)
 
 -- what holds under a test
-if_holds : (b : Bool) (x : Option ServerReply) (r : ServerReply) → (if b then x else None) ≡ Some r → x ≡ Some r
+pub if_holds : (b : Bool) (x : Option ServerReply) (r : ServerReply) → (if b then x else None) ≡ Some r → x ≡ Some r
 if_holds true x r e = e
 if_holds false x r e = absurd (cc e)
 
@@ -91,11 +91,11 @@ run_of_line line x (text, is, (d, frame, tells)) =
     run_at (get (codes "error") d) (get (codes "result") d) x
     (if_holds (is_two (text_in (get (codes "jsonrpc") d))) (read_either execute (get (codes "error") d) (get (codes "result") d)) (executed x) tells)
 
-record RunParts (depth : Option ℕ) (state : Option StateParts) (ending : Option Ending) (nexts : Ending → Option (List NextParts)) (x : ExecutedParts) : Type 0 where
-  depth_is : depth ≡ Some x.depth
-  state_is : state ≡ Some x.state
-  ending_is : ending ≡ Some x.ending
-  nexts_are : nexts x.ending ≡ Some x.nexts
+pub record RunParts (depth : Option ℕ) (state : Option StateParts) (ending : Option Ending) (nexts : Ending → Option (List NextParts)) (x : ExecutedParts) : Type 0 where
+  pub depth_is : depth ≡ Some x.depth
+  pub state_is : state ≡ Some x.state
+  pub ending_is : ending ≡ Some x.ending
+  pub nexts_are : nexts x.ending ≡ Some x.nexts
 
 run_parts : (depth : Option ℕ) (state : Option StateParts) (ending : Option Ending) (nexts : Ending → Option (List NextParts)) (x : ExecutedParts) → executed_from depth state ending nexts ≡ Some x → RunParts depth state ending nexts x
 run_parts None s e ns x h = absurd (cc h)

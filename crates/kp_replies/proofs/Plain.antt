@@ -1,10 +1,7 @@
 -- The trees that are written of results and failures have no float, so their text is exact.
-use Rattle.std.proofs.Common.{◌≡◌, ℕ, List, [], ◌∷◌, false, Option, Some, None, option_map, option_and_then, Ordering, Less, Equal, Greater, refl, ap, ◌∙◌}
-use Rattle.std.proofs.lemmas.Bool.{or_parts}
+use Rattle.std.proofs.Common.{◌≡◌, ℕ, List, [], ◌∷◌, false, Option, Some, None, option_map, option_and_then, refl, ap, ◌∙◌}
 use Rattle.std.specs.Prelude.{codes}
-use Rattle.std.specs.Cmp.Lexicographic.{slice_cmp}
-use Rattle.std.specs.Ordering.{nat_cmp, match_ordering}
-use Rattle.serde_json.specs.Data.{Data, unsigned, number, string, array, object, Items, Members, no_members, member, put}
+use Rattle.serde_json.specs.Data.{Data, unsigned, number, string, array, object, Items, Members, no_members, put}
 use Rattle.serde_json.specs.Written.{has_float, items_have_float, members_have_float}
 use Rattle.kp_kore.specs.Syntax.{Text, KorePattern}
 use Rattle.kp_json.specs.Written.{wrapped_pattern}
@@ -15,23 +12,12 @@ use Rattle.kp_rpc.specs.Request.{RequestId}
 use Rattle.kp_rpc.specs.Reply.{result_reply, reply_bytes}
 use Rattle.kp_rpc.specs.Questions.{with_text}
 use Rattle.kp_rpc.proofs.Floats.{IsPlain, two_plain, wrapped_is_plain, plain_is}
+use Rattle.kp_rpc.proofs.QuestionText.{put_plain, text_plain}
 use Rattle.kp_replies.specs.Written.{with_pattern, with_optional, with_state, state_tree, next_tree, first_item, next_trees, with_ending, with_nexts, executed_members, executed_tree, valid_object, implied_tree, simplified_tree, added_tree}
 use Rattle.kp_replies.specs.Aborted.{with_undecided, aborted_members, aborted_tree}
 use Rattle.kp_replies.specs.Failures.{not_in_a_term, not_one_term, two_meanings, bad_text, unknown_import, bad_axiom, bad_sentence, full_book, Failure, bad_sides, undecided, bad_module, duplicate, limit_tree, with_limit, undecided_data, failure_data, failure_error}
 
 -- ---- members
-
-put_plain_at : (o : Ordering) (k l : Text) (d e : Data) (ms : Members) → has_float d ≡ false → has_float e ≡ false → members_have_float ms ≡ false → members_have_float (put k d ms) ≡ false
-    → members_have_float (match_ordering o (member k d (member l e ms)) (member l d ms) (member l e (put k d ms))) ≡ false
-put_plain_at Less k l d e ms h i m later = rw (h, i, m) refl
-put_plain_at Equal k l d e ms h i m later = rw (h, m) refl
-put_plain_at Greater k l d e ms h i m later = rw (i, later) refl
-
-put_plain : (k : Text) (d : Data) (ms : Members) → has_float d ≡ false → members_have_float ms ≡ false → members_have_float (put k d ms) ≡ false
-put_plain k d no_members h m = rw h refl
-put_plain k d (member l e ms) h m =
-    let parts = or_parts (has_float e) (members_have_float ms) m in
-    put_plain_at (slice_cmp nat_cmp k l) k l d e ms h parts.0 parts.1 (put_plain k d ms h parts.1)
 
 -- members, where there are some, have no float
 abbrev MembersPlain : Option Members → Type 0
@@ -60,10 +46,6 @@ pattern_plain k p o m = put_some k (wrapped_pattern p) o (wrapped_is_plain p) m
 optional_plain : (k : Text) (p : Option KorePattern) (o : Members) → members_have_float o ≡ false → MembersPlain (with_optional k p o)
 optional_plain k None o m = m
 optional_plain k (Some p) o m = pattern_plain k p o m
-
-text_plain : (k : Text) (t : Option Text) (o : Members) → members_have_float o ≡ false → members_have_float (with_text k t o) ≡ false
-text_plain k None o m = m
-text_plain k (Some t) o m = put_plain k (string t) o refl m
 
 -- ---- states
 

@@ -12,6 +12,8 @@ use Rattle.kp_replies.specs.Read.{pattern_in, is_rule_id, if_rule_id, state_from
 use Rattle.kp_replies.specs.Replies.{StandWith}
 use Rattle.kp_replies.specs.Written.{state_tree, next_tree, first_item, next_trees, with_nexts, executed_members, executed_tree}
 use Rattle.kp_replies.proofs.PatternsRead.{only_in}
+use Rattle.kp_replies.proofs.Back.{items_are}
+use Rattle.kp_replies.proofs.Methods.{RunParts}
 
 same : {A : Type 0} (x y : A) → Some x ≡ Some y → x ≡ y
 same x y e = cc e
@@ -169,18 +171,12 @@ nexts_only (n ∷ ns) ds ms made read =
 
 -- ---- results
 
-record RunFound (depth : Option ℕ) (state : Option StateParts) (ending : Option Ending) (nexts : Ending → Option (List NextParts)) (x : ExecutedParts) : Type 0 where
-  depth_is : depth ≡ Some x.depth
-  state_is : state ≡ Some x.state
-  ending_is : ending ≡ Some x.ending
-  nexts_are : nexts x.ending ≡ Some x.nexts
-
 mapped : {A B : Type 0} (f : A → B) (x : Option A) (b : B) → option_map f x ≡ Some b → (a : A) × (x ≡ Some a) × (f a ≡ b)
 mapped f None b e = absurd (cc e)
 mapped f (Some a) b e = (a, refl, cc e)
 
 run_found : (depth : Option ℕ) (state : Option StateParts) (ending : Option Ending) (nexts : Ending → Option (List NextParts)) (x : ExecutedParts) → executed_from depth state ending nexts ≡ Some x
-    → RunFound depth state ending nexts x
+    → RunParts depth state ending nexts x
 run_found None s e ns x h = absurd (cc h)
 run_found (Some n) None e ns x h = absurd (cc h)
 run_found (Some n) (Some s) None ns x h = absurd (cc h)
@@ -234,11 +230,6 @@ parts_only x n e s ns d nexts state later h =
     let is : x.ending ≡ e = ending_only e x.ending f.ending_is in
     whole x n e s ns (sym (same n x.depth f.depth_is)) is (state x.state f.state_is) (later x.nexts (ap nexts (sym is) ∙ f.nexts_are))
 
-items_made : (x : Option Items) (o : Members) (tree : Data) → option_map object (option_map (λ ds. put (codes "next-states") (array ds) o) x) ≡ Some tree
-    → (ds : Items) × (x ≡ Some ds) × (object (put (codes "next-states") (array ds) o) ≡ tree)
-items_made None o tree e = absurd (cc e)
-items_made (Some ds) o tree e = (ds, refl, same (object (put (codes "next-states") (array ds) o)) tree e)
-
 none_only : (ms ns : List NextParts) → ns ≡ [] → Some [] ≡ Some ms → ms ≡ ns
 none_only ms ns none e = sym (same [] ms e) ∙ sym none
 
@@ -258,10 +249,10 @@ run_only x n depth_bound s ns d tree state stand made read =
 run_only x n stuck s ns d tree state stand made read =
     parts_only x n stuck s ns d (nexts_of (plain_tree n stuck d)) state (λ ms. none_only ms ns stand) (ap read_executed (same (plain_tree n stuck d) tree made) ∙ read)
 run_only x n branching s ns d tree state stand made read =
-    let m = items_made (next_trees ns) (executed_members n branching d) tree made in
+    let m = items_are (next_trees ns) (executed_members n branching d) tree made in
     parts_only x n branching s ns d (nexts_of (tree_with n branching d m.0)) state (λ ms. nexts_only ns m.0 ms m.1) (ap read_executed m.2 ∙ read)
 run_only x n (cut_point id) s ns d tree state stand made read =
-    let m = items_made (next_trees ns) (executed_members n (cut_point id) d) tree made in
+    let m = items_are (next_trees ns) (executed_members n (cut_point id) d) tree made in
     parts_only x n (cut_point id) s ns d (nexts_of (tree_with n (cut_point id) d m.0)) state (λ ms. one_only (read_nexts m.0) ms ns (λ l. nexts_only ns m.0 l m.1)) (ap read_executed m.2 ∙ read)
 run_only x n (terminal id) s ns d tree state stand made read =
     parts_only x n (terminal id) s ns d (nexts_of (plain_tree n (terminal id) d)) state (λ ms. none_only ms ns stand) (ap read_executed (same (plain_tree n (terminal id) d) tree made) ∙ read)
@@ -284,8 +275,8 @@ no_validity : (n : ℕ) (e : Ending) (ns : List NextParts) (d tree : Data) → o
 no_validity n vacuous ns d tree e = ap read_implied (sym (same (plain_tree n vacuous d) tree e))
 no_validity n depth_bound ns d tree e = ap read_implied (sym (same (plain_tree n depth_bound d) tree e))
 no_validity n stuck ns d tree e = ap read_implied (sym (same (plain_tree n stuck d) tree e))
-no_validity n branching ns d tree e = ap read_implied (sym (items_made (next_trees ns) (executed_members n branching d) tree e).2)
-no_validity n (cut_point id) ns d tree e = ap read_implied (sym (items_made (next_trees ns) (executed_members n (cut_point id) d) tree e).2)
+no_validity n branching ns d tree e = ap read_implied (sym (items_are (next_trees ns) (executed_members n branching d) tree e).2)
+no_validity n (cut_point id) ns d tree e = ap read_implied (sym (items_are (next_trees ns) (executed_members n (cut_point id) d) tree e).2)
 no_validity n (terminal id) ns d tree e = ap read_implied (sym (same (plain_tree n (terminal id) d) tree e))
 no_validity n (aborted (foreign id)) ns d tree e = ap read_implied (sym (same (plain_tree n (aborted (foreign id)) d) tree e))
 

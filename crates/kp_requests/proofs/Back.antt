@@ -5,14 +5,14 @@ use Rattle.serde_json.specs.Data.{Data, unsigned, negative, float, object, Membe
 use Rattle.serde_json.specs.Written.{compact_text}
 use Rattle.kp_kore.specs.Syntax.{Text, KorePattern}
 use Rattle.kp_json.specs.Faults.{read, wrapped_reading}
-use Rattle.kp_json.specs.Trees.{SpellsWrapped, wrapper}
+use Rattle.kp_json.specs.Trees.{SpellsWrapped}
 use Rattle.kp_json.specs.Written.{two_parts, wrapped_pattern}
 use Rattle.kp_json.proofs.Complete.{wrapped_complete}
 use Rattle.kp_json.proofs.RoundTrip.{wrapped_written}
 use Rattle.kp_rpc.specs.Request.{RequestId, id_text, id_number, id_null, id_tree, ExecuteRequest, ImpliesRequest, execute_method, implies_method}
 use Rattle.kp_rpc.specs.Readings.{read_id, read_options, if_object}
 use Rattle.kp_rpc.specs.Questions.{IsAskable, IsLawfulId, to_execute, to_imply, to_add, execute_params, implies_params, request_object, question_tree}
-use Rattle.kp_rpc.proofs.Asked.{options_are, state_is}
+use Rattle.kp_rpc.proofs.Asked.{options_are, state_is, object_spelled}
 use Rattle.kp_rpc.proofs.OptionsRead.{options_told}
 use Rattle.kp_rpc.proofs.QuestionsRead.{lawful, add_module_tree_read}
 use Rattle.kp_requests.specs.Frames.{IsJson}
@@ -49,9 +49,6 @@ pub record ReadAs (p : KorePattern) : Type 0 where
   pub members : Members
   pub written : wrapped_pattern p ≡ Some (object members)
   pub reads : wrapped_reading (object members) ≡ read p
-
-object_spelled : (d : Data) (p : KorePattern) → SpellsWrapped d p → (o : Members) × (d ≡ object o)
-object_spelled _ _ (wrapper o tree p format version term spelled) = (o, refl)
 
 read_as : (d : Data) (p : KorePattern) → SpellsWrapped d p → ReadAs p
 read_as d p h =

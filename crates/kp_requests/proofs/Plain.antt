@@ -1,30 +1,21 @@
 -- The text that is written of a request is exact, since there is no float in it.
 use Rattle.std.proofs.Common.{◌≡◌, ℕ, ◌≤◌, List, length, Bool, true, false, Option, Some, None, option_map, refl, sym, ap, ◌∙◌, subst, arith}
 use Rattle.std.specs.Prelude.{codes, IsUtf8}
-use Rattle.serde_json.specs.Data.{Data, unsigned, negative, float, Members, depth}
+use Rattle.serde_json.specs.Data.{Data, depth}
 use Rattle.serde_json.specs.Read.{read, max_depth}
 use Rattle.serde_json.specs.Written.{has_float, members_have_float, compact_text}
 use Rattle.kp_kore.specs.Syntax.{Text, KorePattern}
 use Rattle.kp_json.specs.Written.{wrapped_pattern}
 use Rattle.kp_frames.specs.Frames.{most_frame}
-use Rattle.kp_rpc.specs.Request.{RequestId, id_text, id_number, id_null, id_tree}
+use Rattle.kp_rpc.specs.Request.{RequestId, id_text, id_number, id_null}
 use Rattle.kp_rpc.specs.Questions.{IsLawfulId, request_object}
 use Rattle.kp_rpc.specs.View.{id_view}
 use Rattle.kp_rpc.specs.declared.id.Id.{Id}
 use Rattle.kp_rpc.proofs.Asked.{ids_are_lawful}
 use Rattle.kp_rpc.proofs.Floats.{IsPlain, one_plain, wrapped_is_plain, plain_is}
+use Rattle.kp_rpc.proofs.QuestionText.{request_plain}
 use Rattle.kp_requests.specs.Asked.{simplify_params, simplify_tree, add_module_params, add_module_tree}
 use Rattle.kp_requests.specs.Frames.{IsJson}
-
-id_plain : (id : RequestId) → IsLawfulId id → has_float (id_tree id) ≡ false
-id_plain (id_text t) h = refl
-id_plain (id_number (unsigned n)) h = refl
-id_plain (id_number (negative z)) h = refl
-id_plain (id_number (float x)) h = absurd h
-id_plain id_null h = refl
-
-request_plain : (id : RequestId) (method : Text) (params : Members) → IsLawfulId id → members_have_float params ≡ false → has_float (request_object id method params) ≡ false
-request_plain id method params lawful h = rw (id_plain id lawful, h) refl
 
 state_plain : (name : Option Text) (s : Data) → has_float s ≡ false → members_have_float (simplify_params name s) ≡ false
 state_plain None s h = rw h refl

@@ -110,7 +110,7 @@ request_members id method params = members_of ((codes "id", id_tree id) ∷ (cod
 request_is : (id : RequestId) (method : Text) (params : Members) → IsLawfulId id → IsRequest (request_members id method params) id method
 request_is id method params lawful = record { version = refl; method_text = refl; has_id = (id_tree id, refl, lawful) }
 
-object_spelled : (d : Data) (p : KorePattern) → SpellsWrapped d p → (o : Members) × (d ≡ object o)
+pub object_spelled : (d : Data) (p : KorePattern) → SpellsWrapped d p → (o : Members) × (d ≡ object o)
 object_spelled _ _ (wrapper o tree p format version term spelled) = (o, refl)
 
 -- the tree that is written for a spelled pattern is an object that spells it

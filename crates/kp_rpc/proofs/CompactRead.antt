@@ -16,16 +16,16 @@ use Rattle.serde_json.proofs.Texts.{print-outline}
 use Rattle.kp_rpc.proofs.ReadBack.{Back}
 
 -- a value, and nothing after it
-abbrev alone : json.Json → json.Json × List Token
+abbrev pub alone : json.Json → json.Json × List Token
 alone j = (j, [])
 
 -- a reading of the whole text
-record Whole (o : Option (json.Json × List Token)) (e : Data) : Type 0 where
-  value : json.Json
-  last : o ≡ Some (alone value)
-  is : of_json value ≡ Some e
+pub record Whole (o : Option (json.Json × List Token)) (e : Data) : Type 0 where
+  pub value : json.Json
+  pub last : o ≡ Some (alone value)
+  pub is : of_json value ≡ Some e
 
-whole : (o : Option (json.Json × List Token)) (e : Data) → option_and_then of_json (option_and_then (λ p. json.if_last p.0 p.1) o) ≡ Some e → Whole o e
+pub whole : (o : Option (json.Json × List Token)) (e : Data) → option_and_then of_json (option_and_then (λ p. json.if_last p.0 p.1) o) ≡ Some e → Whole o e
 whole None e h = absurd (cc h)
 whole (Some (j, [])) e h = record { value = j; last = refl; is = h }
 whole (Some (j, t ∷ ts)) e h = absurd (cc h)

@@ -6,7 +6,7 @@ pub mod IdsRead
 pub mod OptionsRead
 pub mod ParamsRead
 pub mod QuestionBack
-mod QuestionText
+pub mod QuestionText
 pub mod QuestionsRead
 pub mod ReadBack
 mod Texts

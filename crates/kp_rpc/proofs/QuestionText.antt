@@ -28,7 +28,7 @@ put_plain_at Less k l d e ms h i m later = rw (h, i, m) refl
 put_plain_at Equal k l d e ms h i m later = rw (h, m) refl
 put_plain_at Greater k l d e ms h i m later = rw (i, later) refl
 
-put_plain : (k : Text) (d : Data) (ms : Members) → has_float d ≡ false → members_have_float ms ≡ false → members_have_float (put k d ms) ≡ false
+pub put_plain : (k : Text) (d : Data) (ms : Members) → has_float d ≡ false → members_have_float ms ≡ false → members_have_float (put k d ms) ≡ false
 put_plain k d no_members h m = rw h refl
 put_plain k d (member l e ms) h m =
     let parts = or_parts (has_float e) (members_have_float ms) m in
@@ -42,7 +42,7 @@ number_plain : (k : Text) (n : Option ℕ) (o : Members) → members_have_float 
 number_plain k None o h = h
 number_plain k (Some n) o h = put_plain k (number (unsigned n)) o refl h
 
-text_plain : (k : Text) (t : Option Text) (o : Members) → members_have_float o ≡ false → members_have_float (with_text k t o) ≡ false
+pub text_plain : (k : Text) (t : Option Text) (o : Members) → members_have_float o ≡ false → members_have_float (with_text k t o) ≡ false
 text_plain k None o h = h
 text_plain k (Some t) o h = put_plain k (string t) o refl h
 
@@ -73,7 +73,7 @@ id_plain (id_number (negative z)) h = refl
 id_plain (id_number (float x)) h = absurd h
 id_plain id_null h = refl
 
-request_plain : (id : RequestId) (method : Text) (params : Members) → IsLawfulId id → members_have_float params ≡ false → has_float (request_object id method params) ≡ false
+pub request_plain : (id : RequestId) (method : Text) (params : Members) → IsLawfulId id → members_have_float params ≡ false → has_float (request_object id method params) ≡ false
 request_plain id method params lawful h = rw (id_plain id lawful, h) refl
 
 execute_plain : (q : ExecuteRequest) → IsLawfulId q.id → IsPlain (question_tree (to_execute q))

@@ -3,19 +3,19 @@ use Rattle.std.proofs.Common.{◌≡◌, refl, sym, ◌∙◌, subst, ap, ap₂,
 use Rattle.std.specs.Prelude.{◌==◌}
 use Rattle.std.specs.List.{list_all}
 use Rattle.std.proofs.lemmas.Bool.Decides.{Decides-eqb}
-use Rattle.std.proofs.lemmas.List.Folds.{list_all-append}
 use Rattle.kp_kore.specs.Syntax.{Text, KoreSorts, KorePattern, KorePatterns, variable, application, literal, set_variable, string_literal, top, bottom, negation, next, conjunction, disjunction, implication, equivalence, rewriting, exists, forall, ceil, floor, equals, membership, mu, nu, no_patterns, next_pattern}
-use Rattle.kp_kore.specs.Parts.{SortedName, is_term, are_terms, all_subpatterns, subpatterns, free_variables, all_free_variables, pattern_list}
+use Rattle.kp_kore.specs.Parts.{SortedName, is_term, are_terms, all_subpatterns, free_variables, all_free_variables, pattern_list}
 use Rattle.kp_kore.specs.Signature.{KoreSignature, SymbolMeaning, injection, construction, interpretation, foreign, meaning_of}
 use Rattle.kp_kore.specs.Value.{Value, whole, truth, token, constructed, Values, no_values, next_value, HasSort}
 use Rattle.kp_kore.specs.Instance.{Valuation, instance, instances, applied, GivesSorts, AgreesOn}
 use Rattle.kp_kore.specs.Rules.{Rewrite}
-use Rattle.kp_kore.specs.Foreign.{none_within, has_foreign_head, is_foreign_meaning, has_interpreted_head, is_interpretation}
+use Rattle.kp_kore.specs.Foreign.{has_foreign_head, is_foreign_meaning, has_interpreted_head, is_interpretation}
 use Rattle.kp_kore.proofs.InstanceLemmas.{first_true, second_true}
 use Rattle.kp_kore.proofs.ListLemmas.{all_left, all_right, all_append}
 use Rattle.kp_compile.specs.Verified.{misapplies_injection, is_injection_meaning}
 use Rattle.kp_kore.specs.View.{patterns_view}
 use Rattle.kp_kore.specs.declared.pattern.Pattern.{Pattern}
+use Rattle.kp_signature.proofs.SortedInstances.{none_in_others, none_in_first}
 use Rattle.kp_rules.specs.Skeletons.{Form, built, next_form, forms_of, skeleton_view, Admits, AdmitAll}
 use Rattle.kp_rules.specs.declared.skeleton.Skeleton.{Skeleton}
 use Rattle.kp_rules.specs.LeftForms.{left_form, left_forms, applied_form}
@@ -36,26 +36,20 @@ record AreLeftTerms (g : KoreSignature) (ps : KorePatterns) : Type 0 where
   uninterpreted : none_among (has_interpreted_head g) ps ≡ true
   injections : none_among (misapplies_injection g) ps ≡ true
 
-in_first : (test : KorePattern → Bool) (p : KorePattern) (ps : KorePatterns) → none_among test (next_pattern p ps) ≡ true → none_within test p ≡ true
-in_first test p ps e = first_true (none_within test p) (none_among test ps) (sym (list_all-append (λ q. not (test q)) (subpatterns p) (all_subpatterns ps)) ∙ e)
-
-in_others : (test : KorePattern → Bool) (p : KorePattern) (ps : KorePatterns) → none_among test (next_pattern p ps) ≡ true → none_among test ps ≡ true
-in_others test p ps e = second_true (none_within test p) (none_among test ps) (sym (list_all-append (λ q. not (test q)) (subpatterns p) (all_subpatterns ps)) ∙ e)
-
 first_term : (g : KoreSignature) (p : KorePattern) (ps : KorePatterns) → AreLeftTerms g (next_pattern p ps) → IsLeftTerm g p
 first_term g p ps h = record {
   term = first_true (is_term p) (are_terms ps) h.terms;
-  known = in_first (has_foreign_head g) p ps h.known;
-  uninterpreted = in_first (has_interpreted_head g) p ps h.uninterpreted;
-  injections = in_first (misapplies_injection g) p ps h.injections;
+  known = none_in_first (has_foreign_head g) p ps h.known;
+  uninterpreted = none_in_first (has_interpreted_head g) p ps h.uninterpreted;
+  injections = none_in_first (misapplies_injection g) p ps h.injections;
 }
 
 other_terms : (g : KoreSignature) (p : KorePattern) (ps : KorePatterns) → AreLeftTerms g (next_pattern p ps) → AreLeftTerms g ps
 other_terms g p ps h = record {
   terms = second_true (is_term p) (are_terms ps) h.terms;
-  known = in_others (has_foreign_head g) p ps h.known;
-  uninterpreted = in_others (has_interpreted_head g) p ps h.uninterpreted;
-  injections = in_others (misapplies_injection g) p ps h.injections;
+  known = none_in_others (has_foreign_head g) p ps h.known;
+  uninterpreted = none_in_others (has_interpreted_head g) p ps h.uninterpreted;
+  injections = none_in_others (misapplies_injection g) p ps h.injections;
 }
 
 arguments : (g : KoreSignature) (f : Text) (ss : KoreSorts) (ps : KorePatterns) → IsLeftTerm g (application f ss ps) → AreLeftTerms g ps

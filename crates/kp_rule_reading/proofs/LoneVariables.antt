@@ -10,8 +10,8 @@ use Rattle.kp_signature.proofs.Below.{onwards}
 use Rattle.kp_signature.proofs.OrderLemmas.{one_sort, sort_below, number_below, under_is_below, below_is_under, none_below}
 use Rattle.kp_rules.specs.Index.{IsIndexOf, IsAlone, AreOpposite, OwnsHeads, Under, Over, NumberMeet, SetMeet, IsSettled, up}
 use Rattle.kp_rules.specs.declared.sort_index.SortIndex.{SortIndex}
-use Rattle.kp_rules.proofs.IndexLemmas.{one_own}
-use Rattle.kp_rules.proofs.SplitLemmas.{under_over, over_under}
+use Rattle.kp_rules.proofs.IndexLemmas.{one_own, meet_of_numbers, numbers_of_meet}
+use Rattle.kp_rules.proofs.SplitLemmas.{under_over, over_under, meet_of_sets, sets_of_meet}
 use Rattle.kp_rule_reading.specs.Lone.{SortSplits, NumberSplits}
 
 -- ---- sets of numbers
@@ -19,22 +19,6 @@ use Rattle.kp_rule_reading.specs.Lone.{SortSplits, NumberSplits}
 module _ (x : SortIndex) (opposite : AreOpposite x) (t : ℕ) (below above heads sharing : List ℕ)
     (belows : (j : ℕ) → Contains below j ↔ Under x t j) (aboves : (j : ℕ) → Contains above j ↔ Over x t j)
     (headed : (j : ℕ) → Contains heads j ↔ (Contains below j × OwnsHeads x j)) (shares : (j : ℕ) → Contains sharing j ↔ IsReachedFrom (up x) heads j) where
-  meet_of_sets : (i : ℕ) → SetMeet x i below heads → NumberMeet x t i
-  meet_of_sets i m = record {
-    number = m.number;
-    first = (belows m.number).0 m.among;
-    second = m.under;
-    all = λ o s. m.all o ((headed o).1 ((belows o).1 s.first, s.heads)) s.second;
-  }
-
-  sets_of_meet : (i : ℕ) → NumberMeet x t i → SetMeet x i below heads
-  sets_of_meet i m = record {
-    number = m.number;
-    under = m.second;
-    among = (belows m.number).1 m.first;
-    all = λ o h s. let k = (headed o).0 h in m.all o (record { heads = k.1; first = (belows o).0 k.0; second = s });
-  }
-
   pub all_split : ((i : ℕ) → Contains sharing i → IsSettled x i sharing below above heads) → NumberSplits x t
   all_split settled i o s =
       let there : Contains sharing i = (shares i).1 (o, (headed o).1 ((belows o).1 s.first, s.heads), under_over x opposite i o s.second) in
@@ -43,14 +27,14 @@ module _ (x : SortIndex) (opposite : AreOpposite x) (t : ℕ) (below above heads
           | inl b ↦ record { number = i; first = (belows i).0 b; second = stays i; all = λ k r. r.second }
           | inr a ↦ record { number = t; first = stays t; second = over_under x opposite t i ((aboves i).0 a); all = λ k r. r.first }
         ]
-        | inr m ↦ meet_of_sets i m
+        | inr m ↦ meet_of_sets x t below heads belows headed i m
       ]
 
   pub all_settle : NumberSplits x t → (i : ℕ) → Contains sharing i → IsSettled x i sharing below above heads
   all_settle split i there h =
       let r = (shares i).0 there in
       let k = (headed r.0).0 r.1 in
-      inr (sets_of_meet i (split i r.0 (record { heads = k.1; first = (belows r.0).0 k.0; second = over_under x opposite r.0 i r.2 })))
+      inr (sets_of_meet x t below heads belows headed i (split i r.0 (record { heads = k.1; first = (belows r.0).0 k.0; second = over_under x opposite r.0 i r.2 })))
 
 -- one that shares lower sorts with comparable ones alone
 pub alone_splits : (x : SortIndex) (t : ℕ) → IsAlone x.order.now.graph t → NumberSplits x t
@@ -91,39 +75,6 @@ module _ (g : KoreSignature) (x : SortIndex) (ix : IsIndexOf g x) where
       }
 
   module _ (t : KoreSort) (i : ℕ) (ti : IsNumber (sorts_of x.order.now.graph) i t) where
-    meet_of_numbers : (k : ℕ) (a : KoreSort) → IsNumber (sorts_of x.order.now.graph) k a → NumberMeet x i k → Meet g a t
-    meet_of_numbers k a ka m =
-        let s = sort_below g.subsorts x.order.now.graph ix.order.graph i m.number t ti m.first in
-        let first = under_is_below g.subsorts x.order.now.graph ix.order.graph k m.number s.0 a ka s.1 m.second in
-        record {
-          sort = s.0;
-          below_first = first;
-          below_second = s.2;
-          heads = λ h. (
-            λ o. ((o.0, o.1, onwards g.subsorts o.0 s.0 a o.2 first), (o.0, o.1, onwards g.subsorts o.0 s.0 t o.2 s.2)),
-            λ both.
-                let p = both.0 in
-                let q = both.1 in
-                let n = number_below g.subsorts x.order.now.graph ix.order.graph k p.0 a ka p.2 in
-                let under = below_is_under g.subsorts x.order.now.graph ix.order.graph i n.0 p.0 t ti n.1 (subst (λ v. IsBelow g.subsorts v t) (sym (one_own g h p.0 q.0 p.1 q.1)) q.2) in
-                (p.0, p.1, under_is_below g.subsorts x.order.now.graph ix.order.graph m.number n.0 p.0 s.0 s.1 n.1 (m.all n.0 (record { heads = (ix.heads n.0 p.0 n.1).1 (h, p.1); first = under; second = n.2 }))),
-          );
-        }
-
-    numbers_of_meet : (k : ℕ) (a : KoreSort) → IsNumber (sorts_of x.order.now.graph) k a → Meet g a t → NumberMeet x i k
-    numbers_of_meet k a ka m =
-        let s = number_below g.subsorts x.order.now.graph ix.order.graph k m.sort a ka m.below_first in
-        record {
-          number = s.0;
-          first = below_is_under g.subsorts x.order.now.graph ix.order.graph i s.0 m.sort t ti s.1 m.below_second;
-          second = s.2;
-          all = λ n shared.
-              let o = sort_below g.subsorts x.order.now.graph ix.order.graph k n a ka shared.second in
-              let own = (ix.heads n o.0 o.1).0 shared.heads in
-              let r = (m.heads own.0).1 ((o.0, own.1, o.2), (o.0, own.1, under_is_below g.subsorts x.order.now.graph ix.order.graph i n o.0 t ti o.1 shared.first)) in
-              below_is_under g.subsorts x.order.now.graph ix.order.graph s.0 n o.0 m.sort s.1 o.1 (subst (λ v. IsBelow g.subsorts v m.sort) (one_own g own.0 r.0 o.0 r.1 own.1) r.2);
-        }
-
     -- a sort that shares a head with one that has a number has a number
     pub sort_splits : NumberSplits x i → SortSplits g t
     sort_splits split a h common =
@@ -133,14 +84,14 @@ module _ (g : KoreSignature) (x : SortIndex) (ix : IsIndexOf g x) where
         let n = number_below g.subsorts x.order.now.graph ix.order.graph i p.0 t ti below in
         let k = numbered_above p.0 a (n.0, n.1.0, n.1.1) p.2 in
         let under = below_is_under g.subsorts x.order.now.graph ix.order.graph k.0 n.0 p.0 a (k.1, k.2) n.1 p.2 in
-        meet_of_numbers k.0 a (k.1, k.2) (split k.0 n.0 (record { heads = (ix.heads n.0 p.0 n.1).1 (h, p.1); first = n.2; second = under }))
+        meet_of_numbers g x ix t i ti k.0 a (k.1, k.2) (split k.0 n.0 (record { heads = (ix.heads n.0 p.0 n.1).1 (h, p.1); first = n.2; second = under }))
 
     pub number_splits : SortSplits g t → NumberSplits x i
     number_splits split k n shared =
         let o = sort_below g.subsorts x.order.now.graph ix.order.graph i n t ti shared.first in
         let own = (ix.heads n o.0 o.1).0 shared.heads in
         let a = sort_over k n o.0 o.1 shared.second in
-        numbers_of_meet k a.0 a.1 (split a.0 own.0 ((o.0, own.1, a.2), (o.0, own.1, o.2)))
+        numbers_of_meet g x ix t i ti k a.0 a.1 (split a.0 own.0 ((o.0, own.1, a.2), (o.0, own.1, o.2)))
 
 -- ---- the left term
 

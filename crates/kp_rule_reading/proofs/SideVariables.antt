@@ -14,14 +14,14 @@ use Rattle.kp_kore.specs.Foreign.{none_within, applies_undeclared, IsRead}
 use Rattle.kp_kore.proofs.InstanceLemmas.{first_true, second_true}
 use Rattle.kp_kore.proofs.SameLemmas.{same_sorts_decide}
 use Rattle.kp_signature.specs.Places.{Place, the_top, part_at, after, sort_in_scope}
-use Rattle.kp_signature.specs.Verify.{first_fault, fault_at}
-use Rattle.kp_signature.proofs.FaultLemmas.{nothing_earlier, nothing_later}
+use Rattle.kp_signature.specs.Verify.{first_fault}
 use Rattle.kp_signature.proofs.ListLemmas.{all_weaker, all_both, all_append, all_first, all_second, all_filtered}
 use Rattle.kp_signature.proofs.OneSort.{Agree, agrees}
 use Rattle.kp_signature.proofs.RuleSides.{sides_of, holds_of_term}
 use Rattle.kp_signature.proofs.SortLemmas.{same_inside}
 use Rattle.kp_signature.proofs.VariableSorts.{HasItsSort, in_longer_scope}
 use Rattle.kp_signature.proofs.VerifiedMembers.{StandsVerified, conjuncts_stand}
+use Rattle.kp_signature.proofs.SortedRules.{right_side_is_verified, left_side_is_verified}
 use Rattle.kp_compile.specs.Verified.{misapplies_injection}
 use Rattle.kp_compile.proofs.Reading.{both_so}
 use Rattle.kp_rules.specs.Known.{is_among, is_known}
@@ -90,11 +90,8 @@ conjuncts_agree g c s p e w =
 abbrev AreNamed : List SortedName → KorePattern → Type 0
 AreNamed left q = list_all (λ x. is_named x.name left) (free_variables q) ≡ true
 
-fault_of_left : (g : KoreSignature) (s : KoreSort) (l r : KorePattern) → first_fault g the_top (rewriting s l r) ≡ None → first_fault g (part_at the_top s) l ≡ None
-fault_of_left g s l r e = nothing_earlier _ _ (nothing_later (fault_at g the_top (rewriting s l r)) _ e)
-
 left_agrees : (g : KoreSignature) (s : KoreSort) (l r : KorePattern) (m : Rewrite) → first_fault g the_top (rewriting s l r) ≡ None → rewrite_of (rewriting s l r) ≡ Some m → Agree (free_variables l) (free_variables m.left)
-left_agrees g s l r m e h = (holds_of_term (λ q. Agree (free_variables l) (free_variables q)) l m.left (sides_of s l r m h).left (conjuncts_agree g (part_at the_top s) s l (fault_of_left g s l r e) refl)).0
+left_agrees g s l r m e h = (holds_of_term (λ q. Agree (free_variables l) (free_variables q)) l m.left (sides_of s l r m h).left (conjuncts_agree g (part_at the_top s) s l (left_side_is_verified g s l r e) refl)).0
 
 condition_of_left : (g : KoreSignature) (s : KoreSort) (l r : KorePattern) (m : Rewrite) → first_fault g the_top (rewriting s l r) ≡ None → rewrite_of (rewriting s l r) ≡ Some m →
     AllByRecursion (AreNamed (free_variables m.left)) m.condition → AllByRecursion (IsOfLeft (free_variables m.left)) m.condition
@@ -105,7 +102,7 @@ condition_of_left g s l r m e h named =
     subst (AllByRecursion (IsOfLeft left)) (sym condition)
     (all_both (λ q. Agree whole (free_variables q) × (not (is_term q) ≡ true)) (AreNamed left) (IsOfLeft left) (conjoined_predicates l)
     (λ q a n. all_among_named whole left (free_variables q) (left_agrees g s l r m e h) a.0 n)
-    (all_filtered (λ q. Agree whole (free_variables q)) (λ q. not (is_term q)) (conjuncts l) (conjuncts_agree g (part_at the_top s) s l (fault_of_left g s l r e) refl))
+    (all_filtered (λ q. Agree whole (free_variables q)) (λ q. not (is_term q)) (conjuncts l) (conjuncts_agree g (part_at the_top s) s l (left_side_is_verified g s l r e) refl))
     (subst (AllByRecursion (AreNamed left)) condition named))
 
 -- ---- the variables of the right side
@@ -132,9 +129,6 @@ old_or_new left scope all r y h a k = by (is_among y new) k
         let unbound = neither (is_named y.name (top_binders r)) (is_named y.name others) (sym (named_in_both y.name (top_binders r) others) ∙ is_not (is_named y.name new) apart) in
         both_so _ _ (among_named (scope ++ all) left y a (h.scoped unbound.0) old) apart
 
-fault_of_right : (g : KoreSignature) (s : KoreSort) (l r : KorePattern) → first_fault g the_top (rewriting s l r) ≡ None → first_fault g (after l (part_at the_top s)) r ≡ None
-fault_of_right g s l r e = nothing_earlier _ _ (nothing_later (first_fault g (part_at the_top s) l) _ (nothing_later (fault_at g the_top (rewriting s l r)) _ e))
-
 abbrev IsOfSides : Rewrite → KorePattern → Type 0
 IsOfSides m = IsOfBoth (free_variables m.left) m.new_variables
 
@@ -148,7 +142,7 @@ right_of_both g s l r m e h =
     let agree : Agree (scope ++ all) left = agree_longer scope all left (left_agrees g s l r m e h) in
     let each : AllByRecursion (λ y. is_old_or_new left new y ≡ true) all =
     all_both (StandsBound scope (top_binders r) all) (λ y. is_among y all ≡ true) (λ y. is_old_or_new left new y ≡ true) all
-    (λ y b k. old_or_new left scope all r y b agree (known_variable left scope all r y b k)) (stands_bound g (after l (part_at the_top s)) r (fault_of_right g s l r e)) (own_members all) in
+    (λ y b k. old_or_new left scope all r y b agree (known_variable left scope all r y b k)) (stands_bound g (after l (part_at the_top s)) r (right_side_is_verified g s l r e)) (own_members all) in
     subst (λ xs. AllByRecursion (IsOfBoth left xs) (conjuncts (under_binders r))) (sym (sides_of s l r m h).new_variables)
     (conjuncts_pass (is_old_or_new left new) (under_binders r) (all_so (is_old_or_new left new) all each))
 
@@ -197,7 +191,7 @@ new_agree g s l r m e h =
     let own : Agree whole binders = agree_longer binders rest binders (binders_agree binders (are_distinct s l r m h)) in
     let unbound : Agree whole free =
     all_both (λ y. is_named y.name binders ≡ false) (HasItsSort rest) (HasItsSort whole) free (λ y n k. behind y.name binders rest n ∙ k)
-    (none_bound r) (agrees g (after l (part_at the_top s)) r (fault_of_right g s l r e)) in
+    (none_bound r) (agrees g (after l (part_at the_top s)) r (right_side_is_verified g s l r e)) in
     let named : SortedName → Bool = λ x. not (is_named x.name (free_variables m.left)) in
     let others : Agree whole (filter named free) =
     all_weaker (λ y. HasItsSort whole y × (named y ≡ true)) (HasItsSort whole) (filter named free) (λ y k. k.0) (all_filtered (HasItsSort whole) named free unbound) in

@@ -19,6 +19,7 @@ use Rattle.kp_signature.proofs.SortLemmas.{same_inside}
 use Rattle.kp_signature.proofs.ListLemmas.{all_both, all_filtered}
 use Rattle.kp_signature.proofs.VerifiedMembers.{StandsVerified, conjuncts_stand, none_in_conjuncts}
 use Rattle.kp_signature.proofs.RuleSides.{sides_of, holds_of_term}
+use Rattle.kp_signature.proofs.SortedRules.{none_on_the_right}
 use Rattle.kp_compile.specs.Verified.{misapplies_injection, IsVerified, IsVerifiedTerm, IsVerifiedPredicate}
 use Rattle.kp_rules.specs.VerifiedSides.{IsVerifiedEnsured}
 use Rattle.kp_rule_reading.specs.ReadRules.{IsSound}
@@ -98,11 +99,6 @@ none_under test r e = e
 none_on_the_left : (test : KorePattern → Bool) (s : KoreSort) (l r : KorePattern) → none_within test (rewriting s l r) ≡ true → none_within test l ≡ true
 none_on_the_left test s l r e =
     first_true (none_within test l) (none_within test r)
-    (sym (list_all-append (λ q. not (test q)) (subpatterns l) (subpatterns r)) ∙ second_true (not (test (rewriting s l r))) (list_all (λ q. not (test q)) (subpatterns l ++ subpatterns r)) e)
-
-none_on_the_right : (test : KorePattern → Bool) (s : KoreSort) (l r : KorePattern) → none_within test (rewriting s l r) ≡ true → none_within test r ≡ true
-none_on_the_right test s l r e =
-    second_true (none_within test l) (none_within test r)
     (sym (list_all-append (λ q. not (test q)) (subpatterns l) (subpatterns r)) ∙ second_true (not (test (rewriting s l r))) (list_all (λ q. not (test q)) (subpatterns l ++ subpatterns r)) e)
 
 pub condition_is : (s : KoreSort) (l r : KorePattern) (m : Rewrite) → rewrite_of (rewriting s l r) ≡ Some m → m.condition ≡ conjoined_predicates l

@@ -8,13 +8,13 @@ use Rattle.std.proofs.lemmas.Slice.Eq.{bytes_eq-Decides}
 use Rattle.kp_kore.specs.Syntax.{Text, KoreSort, SymbolDeclaration}
 use Rattle.kp_kore.specs.Signature.{KoreSignature, is_the, integer_sort, boolean_sort, has_literals, is_integer_sort, is_boolean_sort, is_token_sort, SymbolMeaning, injection, construction, interpretation, foreign, symbol_declared, symbol_meaning, Head, integers, booleans, tokens, constructor_of, IsSortOfHead}
 use Rattle.std.specs.Prelude.{IsTrue}
+use Rattle.kp_kore.proofs.SameLemmas.{sorts_equal-Decides}
 use Rattle.kp_signature.specs.Edges.{IsNumber}
 use Rattle.kp_signature.specs.Order.{sorts_of}
 use Rattle.kp_signature.specs.declared.graph.SortGraph.{SortGraph}
 use Rattle.kp_signature.proofs.EdgeLemmas.{nothing_there}
 use Rattle.kp_signature.proofs.NewOrder.{number_cases, pushed_length, pushed_before, pushed_last, there}
 use Rattle.kp_signature.proofs.OrderLemmas.{one_sort}
-use Rattle.kp_signature.proofs.Same.{sorts_equal-Decides}
 use Rattle.kp_rules.specs.Index.{AreMarked, OwnsBy, HasOwnHeads, constructed_sort, result_where}
 
 pub owns_more : (g : KoreSignature) (ds : List SymbolDeclaration) (d : SymbolDeclaration) (a : KoreSort) → OwnsBy g (ds ++ d ∷ []) a ↔ (OwnsBy g ds a ⊎ (constructed_sort g d.name ≡ Some a))

@@ -83,6 +83,23 @@ module _ (x : SortIndex) (opposite : AreOpposite x) where
 
 -- ---- what splits
 
+module _ (x : SortIndex) (t : ℕ) (below heads : List ℕ) (belows : (j : ℕ) → Contains below j ↔ Under x t j) (headed : (j : ℕ) → Contains heads j ↔ (Contains below j × OwnsHeads x j)) where
+  pub meet_of_sets : (i : ℕ) → SetMeet x i below heads → NumberMeet x t i
+  meet_of_sets i m = record {
+    number = m.number;
+    first = (belows m.number).0 m.among;
+    second = m.under;
+    all = λ o s. m.all o ((headed o).1 ((belows o).1 s.first, s.heads)) s.second;
+  }
+
+  pub sets_of_meet : (i : ℕ) → NumberMeet x t i → SetMeet x i below heads
+  sets_of_meet i m = record {
+    number = m.number;
+    under = m.second;
+    among = (belows m.number).1 m.first;
+    all = λ o h s. let k = (headed o).0 h in m.all o (record { heads = k.1; first = (belows o).0 k.0; second = s });
+  }
+
 module _ (x : SortIndex) (opposite : AreOpposite x) (t u : ℕ) (below above under heads sharing : List ℕ)
     (belows : (j : ℕ) → Contains below j ↔ Under x t j) (aboves : (j : ℕ) → Contains above j ↔ Over x t j) (unders : (j : ℕ) → Contains under j ↔ Under x u j)
     (headed : (j : ℕ) → Contains heads j ↔ (Contains below j × OwnsHeads x j)) (shares : (j : ℕ) → Contains sharing j ↔ IsReachedFrom (up x) heads j) where
@@ -92,33 +109,17 @@ module _ (x : SortIndex) (opposite : AreOpposite x) (t u : ℕ) (below above und
   meet_above : (i : ℕ) → Under x i t → NumberMeet x t i
   meet_above i h = record { number = t; first = stays t; second = h; all = λ o s. s.first }
 
-  meet_of_sets : (i : ℕ) → SetMeet x i below heads → NumberMeet x t i
-  meet_of_sets i m = record {
-    number = m.number;
-    first = (belows m.number).0 m.among;
-    second = m.under;
-    all = λ o s. m.all o ((headed o).1 ((belows o).1 s.first, s.heads)) s.second;
-  }
-
-  sets_of_meet : (i : ℕ) → NumberMeet x t i → SetMeet x i below heads
-  sets_of_meet i m = record {
-    number = m.number;
-    under = m.second;
-    among = (belows m.number).1 m.first;
-    all = λ o h s. let k = (headed o).0 h in m.all o (record { heads = k.1; first = (belows o).0 k.0; second = s });
-  }
-
   pub all_split : ((i : ℕ) → Contains sharing i → IsSettled x i under below above heads) → NumbersSplit x t u
   all_split settled i h o s = elim (settled i ((shares i).1 (o, (headed o).1 ((belows o).1 s.first, s.heads), under_over x opposite i o s.second)) ((unders i).1 h)) [
     | inl one ↦ elim one [ inl b ↦ meet_below i ((belows i).0 b) | inr a ↦ meet_above i (over_under x opposite t i ((aboves i).0 a)) ]
-    | inr m ↦ meet_of_sets i m
+    | inr m ↦ meet_of_sets x t below heads belows headed i m
   ]
 
   pub all_settle : NumbersSplit x t u → (i : ℕ) → Contains sharing i → IsSettled x i under below above heads
   all_settle split i there h =
       let r = (shares i).0 there in
       let k = (headed r.0).0 r.1 in
-      inr (sets_of_meet i (split i ((unders i).0 h) r.0 (record { heads = k.1; first = (belows r.0).0 k.0; second = over_under x opposite r.0 i r.2 })))
+      inr (sets_of_meet x t below heads belows headed i (split i ((unders i).0 h) r.0 (record { heads = k.1; first = (belows r.0).0 k.0; second = over_under x opposite r.0 i r.2 })))
 
 pub none_failed : (x : SortIndex) (others failed : List ℕ) → length failed ≡ 0 → AreNotOver x others failed
 none_failed x others failed none i h = absurd (no h.0 (subst (λ n. h.0 < n) none h.1))

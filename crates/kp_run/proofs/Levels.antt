@@ -10,9 +10,9 @@ use Rattle.kp_kore.specs.Attributes.{sorts_equal}
 use Rattle.kp_kore.specs.Signature.{KoreSignature}
 use Rattle.kp_kore.specs.declared.sort.Sort.{Sort}
 use Rattle.kp_kore.specs.Value as model
+use Rattle.kp_kore.proofs.SameLemmas.{sorts_equal-Decides}
 use Rattle.kp_ground.specs.View.{value_view, values_of}
 use Rattle.kp_ground.specs.declared.value.Value.{Value}
-use Rattle.kp_signature.proofs.Same.{sorts_equal-Decides}
 use Rattle.kp_compile.specs.Spelled.{spelling, spellings, bare_spelling, home_of, places_of, placed, injected}
 use Rattle.kp_run.specs.Depths.{node, levels_of, counted, depths_in}
 use Rattle.kp_run.specs.View.{AreDepthsOf, AreDepthsOfAll, depths_view, trees_of}

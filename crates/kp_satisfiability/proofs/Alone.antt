@@ -96,7 +96,7 @@ free_literal g l e q = free_atom g l.holds l.atom e q
 
 -- ---- in no other clause
 
-all_pass : {X : Type 0} (test : X → Bool) (xs : List X) → list_all test xs ≡ true → AllByRecursion (λ x. test x ≡ true) xs
+pub all_pass : {X : Type 0} (test : X → Bool) (xs : List X) → list_all test xs ≡ true → AllByRecursion (λ x. test x ≡ true) xs
 all_pass test [] e = tt
 all_pass test (x ∷ xs) e = (first_true (test x) (list_all test xs) e, all_pass test xs (second_true (test x) (list_all test xs) e))
 

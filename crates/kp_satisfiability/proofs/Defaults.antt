@@ -8,7 +8,8 @@ use Rattle.kp_kore.specs.Value.{truth, HasSort}
 use Rattle.kp_kore.specs.Instance.{Valuation, GivesSorts, assigned}
 use Rattle.kp_kore.proofs.ListLemmas.{all_map}
 use Rattle.kp_heads.specs.Heads.{HasValue}
-use Rattle.kp_satisfiability.proofs.Untouched.{itself_there, still_gives}
+use Rattle.kp_symbolic.proofs.Agreeing.{itself_there}
+use Rattle.kp_satisfiability.proofs.Untouched.{still_gives}
 
 -- a value for the first variable of each name
 abbrev given : (g : KoreSignature) (xs : List SortedName) → AllByRecursion (λ x. HasValue g x.sort) xs → Valuation

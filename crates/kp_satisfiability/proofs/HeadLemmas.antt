@@ -2,7 +2,7 @@
 use Rattle.std.proofs.Common.{◌≡◌, refl, sym, ap, subst, ◌∙◌, Bool, true, false, not, ◌&&◌, ◌||◌, List, [], ◌∷◌, Option, Some, None}
 use Rattle.std.specs.Prelude.{MatchBool, if◌then◌else◌, ⊤}
 use Rattle.std.specs.Bool.{beq, Decides}
-use Rattle.std.specs.List.{AllByRecursion, Contains, list_all, flat_map}
+use Rattle.std.specs.List.{AllByRecursion, Contains, flat_map}
 use Rattle.std.specs.Str.{bytes_eq}
 use Rattle.std.proofs.lemmas.Slice.Eq.{bytes_eq-Decides}
 use Rattle.std.proofs.lemmas.List.Elements.{Contains-append_left, Contains-append_right, Contains-push}
@@ -11,7 +11,6 @@ use Rattle.kp_kore.specs.Parts.{SortedName}
 use Rattle.kp_kore.specs.Signature.{KoreSignature, Head, is_head}
 use Rattle.kp_kore.specs.Value.{Value, truth, head_of, HasSort}
 use Rattle.kp_kore.specs.Instance.{Valuation, GivesSorts, assigned}
-use Rattle.kp_kore.proofs.InstanceLemmas.{first_true, second_true}
 use Rattle.kp_kore.proofs.ListLemmas.{all_left, all_right, all_map, all_append}
 use Rattle.kp_kore.proofs.TurnLemmas.{of_member}
 use Rattle.kp_signature.proofs.HeadLemmas.{is_head-Decides}
@@ -20,9 +19,10 @@ use Rattle.kp_symbolic.specs.Heads.{passes_head}
 use Rattle.kp_symbolic.specs.Plain.{Form, compares, is_truth, equates, asks, gives, ReadLiteral}
 use Rattle.kp_symbolic.proofs.HeadLemmas.{passes-Decides, head_from_sort}
 use Rattle.kp_symbolic.proofs.HeadQuestions.{sort_from_head}
+use Rattle.kp_symbolic.proofs.Agreeing.{itself_there}
 use Rattle.kp_satisfiability.proofs.Asked.{asked_of, asked_in, IsHeadAsked, AreHeadsAsked, CanHaveHeads}
 use Rattle.kp_satisfiability.specs.Heads.{head_agrees, agrees_with_one, agrees_with_all, MayBe, HasHead, IsStanding, AreStanding}
-use Rattle.kp_satisfiability.proofs.Untouched.{itself_there}
+use Rattle.kp_satisfiability.proofs.Alone.{all_pass}
 
 true_false : true ≡ false → ⊥
 true_false e = cc
@@ -181,10 +181,6 @@ none_asked g v (Some (equates b p q)) e = tt
 none_asked g v (Some (gives e)) i = tt
 none_asked g v None e = tt
 
-all_pass : {X : Type 0} (test : X → Bool) (xs : List X) → list_all test xs ≡ true → AllByRecursion (λ x. test x ≡ true) xs
-all_pass test [] e = tt
-all_pass test (x ∷ xs) e = (first_true (test x) (list_all test xs) e, all_pass test xs (second_true (test x) (list_all test xs) e))
-
 one_of_one : (a : Bool) → (a || false) ≡ true → a ≡ true
 one_of_one true e = refl
 one_of_one false e = absurd (cc)
@@ -218,7 +214,7 @@ all_heads g v cs (d ∷ ds) alone at fit =
     let own = flat_map (λ l. asked_of l.form) d in
     (clause_heads g v cs d alone.0 at.0 (all_left (Fits g cs v) own (asked_in ds) fit), all_heads g v cs ds alone.1 at.1 (all_right (Fits g cs v) own (asked_in ds) fit))
 
-each_self : {X : Type 0} (xs : List X) → AllByRecursion (Contains xs) xs
+pub each_self : {X : Type 0} (xs : List X) → AllByRecursion (Contains xs) xs
 each_self [] = tt
 each_self (x ∷ xs) = (Contains-append_left (x ∷ []) xs x (Contains-push [] x), all_map (Contains xs) (Contains (x ∷ xs)) xs (λ y h. Contains-append_right (x ∷ []) xs y h) (each_self xs))
 

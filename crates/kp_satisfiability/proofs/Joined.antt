@@ -17,6 +17,7 @@ use Rattle.kp_symbolic.specs.Weights.{name_in}
 use Rattle.kp_clause_demands.specs.Saying.{named_number, number_of, whole_value, token_value}
 use Rattle.kp_clause_demands.specs.Asking.{AsksTruly, IsAskedTruly, AreAskedTruly}
 use Rattle.kp_kore.specs.Interpretation.{compared}
+use Rattle.kp_clause_demands.proofs.FromNumbers.{zipped}
 use Rattle.kp_satisfiability.proofs.Asked.{asked_of, asked_in, IsHeadAsked, AreHeadsAsked}
 
 -- ---- what is asked of numbers, truth values and tokens
@@ -217,10 +218,6 @@ each_self : (xs hand : List SortedName) → ((x : SortedName) → Contains xs x 
 each_self [] hand f = tt
 each_self (x ∷ xs) hand f = (f x (Contains-append_left (x ∷ []) xs x (Contains-push [] x)), each_self xs hand (λ y at. f y (Contains-append_right (x ∷ []) xs y at)))
 
-both_of : {X : Type 0} (P Q R : X → Type 0) (xs : List X) → ((x : X) → P x → Q x → R x) → AllByRecursion P xs → AllByRecursion Q xs → AllByRecursion R xs
-both_of P Q R [] f h k = tt
-both_of P Q R (x ∷ xs) f h k = (f x h.0 k.0, both_of P Q R xs f h.1 k.1)
-
 pub are_joined : (g : KoreSignature) (hand : List SortedName) (cs : List (List ReadLiteral)) (v heads others : Valuation) → CanBeJoined g hand cs v heads others → AreJoined g hand cs (joined_of cs v heads others)
 are_joined g hand cs v heads others k =
     let w = joined_of cs v heads others in
@@ -228,7 +225,7 @@ are_joined g hand cs v heads others k =
     record {
       sorts = all_sorted g hand cs v heads others k hand (each_self hand hand (λ x at. at)) k.others_sorted;
       heads = all_heads g heads w cs
-          (both_of (λ x. Contains hand x × (is_named x.name zs ≡ true)) (λ x. HasSort g x.sort (heads x.name)) (SameHead heads w) zs (λ x p has. same_head g hand cs v heads others k x p.0 has p.1)
-          (both_of (Contains hand) (λ x. is_named x.name zs ≡ true) (λ x. Contains hand x × (is_named x.name zs ≡ true)) zs (λ x a b. (a, b)) k.asked_at_hand (all_named_variables zs)) k.heads_sorted) k.heads_asked;
+          (zipped (λ x. Contains hand x × (is_named x.name zs ≡ true)) (λ x. HasSort g x.sort (heads x.name)) (SameHead heads w) zs (λ x p has. same_head g hand cs v heads others k x p.0 has p.1)
+          (zipped (Contains hand) (λ x. is_named x.name zs ≡ true) (λ x. Contains hand x × (is_named x.name zs ≡ true)) zs (λ x a b. (a, b)) k.asked_at_hand (all_named_variables zs)) k.heads_sorted) k.heads_asked;
       asked = all_agree g v w cs (all_map (λ y. list_any (bytes_eq y) (names_in cs) ≡ true) (SameAt v w) (names_in cs) (λ y e. of_unknown cs v heads others y e) (all_named (names_in cs))) k.asked;
     }

@@ -4,18 +4,16 @@ use Rattle.std.specs.Prelude.{if◌then◌else◌, MatchBool}
 use Rattle.std.specs.Bool.{beq}
 use Rattle.std.specs.Ordering.{int_eq}
 use Rattle.std.proofs.lemmas.Bool.Decides.{Decides-int_eq}
-use Rattle.kp_kore.specs.Syntax.{Text, KoreSort, KoreSorts, no_sorts, next_sort}
+use Rattle.kp_kore.specs.Syntax.{Text, KoreSort}
 use Rattle.kp_kore.specs.Attributes.{sorts_equal}
-use Rattle.kp_kore.specs.Hooks.{Comparison, equal, different, whole_comparison, values_equal, values_different}
+use Rattle.kp_kore.specs.Hooks.{equal, different, whole_comparison, values_equal, values_different}
 use Rattle.kp_kore.specs.Parts.{SortedName}
-use Rattle.kp_kore.specs.Signature.{KoreSignature, SymbolMeaning, interpretation, meaning_of, is_number_sort, is_truth_sort, are_two}
-use Rattle.kp_kore.specs.Value.{Value, whole, truth, HasSort, HaveSorts}
+use Rattle.kp_kore.specs.Signature.{KoreSignature, SymbolMeaning, interpretation, meaning_of}
+use Rattle.kp_kore.specs.Value.{Value, whole, truth, HasSort}
 use Rattle.kp_kore.specs.Forms.{two}
 use Rattle.kp_kore.specs.Interpretation.{interpreted}
 use Rattle.kp_kore.specs.Instance.{Valuation, GivesSorts, applied}
-use Rattle.kp_kore.proofs.InstanceLemmas.{first_true, second_true}
 use Rattle.kp_kore.proofs.SameLemmas.{equal_call, different_call}
-use Rattle.kp_signature.proofs.NumberLemmas.{number_value}
 use Rattle.kp_symbolic.specs.Terms.{SymbolicTerm, unknown, offset, known, headed, no_terms, next_term, term_instance, term_variables}
 use Rattle.kp_symbolic.specs.States.{Atom, same, has_head, quoted, IsAtomTrue, Literal, IsLiteralTrue}
 use Rattle.kp_symbolic.specs.WellFormed.{IsWellSorted}
@@ -23,9 +21,7 @@ use Rattle.kp_symbolic.specs.Folding.{is_text_before}
 use Rattle.kp_symbolic.specs.Writing.{is_solved_by}
 use Rattle.kp_symbolic.specs.Solving.{Equation, equation_if, first_equation, equation_of_sides, tells_equal, tells_different, equation_of_truth, equation_of_atom, equation_of}
 use Rattle.kp_symbolic.proofs.Distribution.{all_first}
-use Rattle.kp_symbolic.proofs.Equations.{IsMet, AreSides}
-use Rattle.kp_symbolic.proofs.WellSorted.{plain_symbol, places_are, terms_sorted}
-use Rattle.kp_symbolic.proofs.SortedFolding.{symbol_fits}
+use Rattle.kp_symbolic.proofs.Equations.{IsMet, AreSides, numbers_of, turned, AreNumbers}
 
 some_inside : {A : Type 0} {a b : A} → Some a ≡ Some b → a ≡ b
 some_inside e = cc
@@ -79,28 +75,6 @@ true_false e = cc
 whole_inside : {m n : ℤ} → whole m ≡ whole n → m ≡ n
 whole_inside e = cc
 
--- both arguments of a comparison are whole numbers
-record AreNumbers (u w : Value) : Type 0 where
-  first : ℤ
-  second : ℤ
-  first_is : u ≡ whole first
-  second_is : w ≡ whole second
-
-two_numbers : (g : KoreSignature) (ss : KoreSorts) (u w : Value) → are_two (is_number_sort g) ss ≡ true → HaveSorts g ss (two u w) → AreNumbers u w
-two_numbers g no_sorts u w e h = absurd (cc)
-two_numbers g (next_sort a no_sorts) u w e h = absurd (cc)
-two_numbers g (next_sort a (next_sort b (next_sort c ss))) u w e h = absurd (cc)
-two_numbers g (next_sort a (next_sort b no_sorts)) u w e h =
-    let m = number_value g a u (first_true (is_number_sort g a) (is_number_sort g b) e) h.0 in
-    let n = number_value g b w (second_true (is_number_sort g a) (is_number_sort g b) e) h.1.0 in
-    record { first = m.0; second = n.0; first_is = m.1; second_is = n.1 }
-
-numbers_of : (g : KoreSignature) (v : Valuation) (s : KoreSort) (f : Text) (t u : SymbolicTerm) (c : Comparison) → meaning_of g f ≡ interpretation (whole_comparison c) → IsWellSorted g s (headed f (next_term t (next_term u no_terms))) → GivesSorts g v (term_variables (headed f (next_term t (next_term u no_terms)))) → AreNumbers (term_instance g v t) (term_instance g v u)
-numbers_of g v s f t u c m w h =
-    let k = plain_symbol g f w.0 in
-    two_numbers g k.declaration.arguments (term_instance g v t) (term_instance g v u) (first_true (are_two (is_number_sort g) k.declaration.arguments) (is_truth_sort g k.declaration.result) (symbol_fits g f k (whole_comparison c) m))
-    (subst (λ ss. HaveSorts g ss (two (term_instance g v t) (term_instance g v u))) (places_are g f k) (terms_sorted g v _ (next_term t (next_term u no_terms)) w.2 h))
-
 same_inside : {u w : Value} (k : AreNumbers u w) → u ≡ w → int_eq k.first k.second ≡ true
 same_inside k e = (Decides-int_eq k.first k.second).1 (whole_inside (sym k.first_is ∙ e ∙ k.second_is))
 
@@ -153,10 +127,6 @@ told_value g v s a true t o e w h i q m =
     told_first g v (term_instance g v t ≡ truth a) (equation_of_truth g (beq a true) t) o e (λ d k n. told_truth g v s (beq a true) t d w h k n ∙ ap truth (by_true a)) i q m
 told_value g v s a false t o e w h i q m =
     told_first g v (¬ (term_instance g v t ≡ truth a)) (equation_of_truth g (beq a false) t) None e (λ d k n. other_truth a (term_instance g v t) (told_truth g v s (beq a false) t d w h k n)) (λ d k n. absurd (none_is_some k)) q m
-
-turned : (b : Bool) (u w : Value) → MatchBool b (u ≡ w) (¬ (u ≡ w)) → MatchBool b (w ≡ u) (¬ (w ≡ u))
-turned true u w h = sym h
-turned false u w n = λ e. n (sym e)
 
 abbrev Given : Valuation → KoreSignature → SortedName → Type 0
 Given v g x = HasSort g x.sort (v x.name)

@@ -1,9 +1,9 @@
 -- Where each clause is true by a plain literal or is a solved equation, the variables that are solved for can be given the
 -- instances of their terms, and nothing else changes.
-use Rattle.std.proofs.Common.{◌≡◌, refl, sym, ◌∙◌, ap, subst, inl, inr, Bool, true, false, List, [], ◌∷◌, ◌++◌, map, Some}
+use Rattle.std.proofs.Common.{◌≡◌, refl, sym, ◌∙◌, subst, inl, inr, Bool, true, false, List, [], ◌∷◌, ◌++◌, Some}
 use Rattle.std.specs.Prelude.{if◌then◌else◌, ⊤}
 use Rattle.std.specs.List.{AllByRecursion, Contains, filter}
-use Rattle.std.proofs.lemmas.List.Elements.{Contains-append_left, Contains-append_right, Contains-push}
+use Rattle.std.proofs.lemmas.List.Elements.{Contains-append_right, Contains-push}
 use Rattle.kp_kore.specs.Parts.{SortedName}
 use Rattle.kp_kore.specs.Signature.{KoreSignature}
 use Rattle.kp_kore.specs.Value.{HasSort}
@@ -11,30 +11,24 @@ use Rattle.kp_kore.specs.Instance.{Valuation, GivesSorts, AgreesOn, assigned}
 use Rattle.kp_symbolic.specs.Terms.{term_instance, term_variables}
 use Rattle.kp_symbolic.specs.States.{Literal, IsLiteralTrue, IsClauseTrue, atom_variables, clause_variables, SymbolicState}
 use Rattle.kp_symbolic.specs.WellFormed.{IsWellSortedAtom, AreAtHand}
-use Rattle.kp_symbolic.specs.Plain.{Form, form_of, own_form, ReadLiteral, read_clause, has_form, literals_of, plain_part}
+use Rattle.kp_symbolic.specs.Plain.{Form, own_form, ReadLiteral, read_clause, has_form, literals_of, plain_part}
 use Rattle.kp_symbolic.proofs.Distribution.{all_first, all_second}
 use Rattle.kp_symbolic.proofs.Equations.{IsMet}
 use Rattle.kp_symbolic.proofs.WellSorted.{term_sorted}
+use Rattle.kp_symbolic.proofs.Exact.{read_keeps}
+use Rattle.kp_symbolic.proofs.Agreeing.{term_agrees, literal_agrees, not_there, itself_there}
 use Rattle.kp_symbolic_laws.proofs.RightEquations.{IsRightEquation, right_clause}
 use Rattle.kp_satisfiability.proofs.Alone.{free_literal, alone_in, LeaveAll, others_leave}
 use Rattle.kp_satisfiability.proofs.GivenLemmas.{gives_at_hand}
 use Rattle.kp_satisfiability.proofs.Ready.{IsSolved, IsReady}
 use Rattle.kp_satisfiability.proofs.Solutions.{told_literal}
-use Rattle.kp_satisfiability.proofs.Untouched.{term_agrees, literal_agrees, clause_agrees, not_there, itself_there, still_gives}
+use Rattle.kp_satisfiability.proofs.Untouched.{clause_agrees, still_gives}
+use Rattle.kp_satisfiability.proofs.HeadLemmas.{each_self}
 
 abbrev SameAt : Valuation → Valuation → SortedName → Type 0
 SameAt v w x = w x.name ≡ v x.name
 
 -- ---- the plain part of a clause has no other variables
-
-mapped : (g : KoreSignature) (c : List Literal) → literals_of (map (λ l. record { literal = l; form = form_of g l }) c) ≡ c
-mapped g [] = refl
-mapped g (l ∷ c) = ap (λ k. l ∷ k) (mapped g c)
-
-read_keeps : (g : KoreSignature) (s : SymbolicState) (others : List (List Literal)) (c : List Literal) → literals_of (read_clause g s others c) ≡ c
-read_keeps g s others [] = refl
-read_keeps g s others (l ∷ []) = refl
-read_keeps g s others (l ∷ m ∷ c) = ap (λ k. l ∷ m ∷ k) (mapped g c)
 
 part_variables : (Q : SortedName → Type 0) (c : List ReadLiteral) → AllByRecursion Q (clause_variables (literals_of c)) → AllByRecursion Q (clause_variables (plain_part c))
 part_variables Q [] h = tt
@@ -117,10 +111,6 @@ true_false e = cc
 all_map : {X : Type 0} (P Q : X → Type 0) (xs : List X) → ((x : X) → P x → Q x) → AllByRecursion P xs → AllByRecursion Q xs
 all_map P Q [] f h = tt
 all_map P Q (x ∷ xs) f h = (f x h.0, all_map P Q xs f h.1)
-
-each_self : {X : Type 0} (xs : List X) → AllByRecursion (Contains xs) xs
-each_self [] = tt
-each_self (x ∷ xs) = (Contains-append_left (x ∷ []) xs x (Contains-push [] x), all_map (Contains xs) (Contains (x ∷ xs)) xs (λ y h. Contains-append_right (x ∷ []) xs y h) (each_self xs))
 
 each_one : (x : SortedName) (hand ys : List SortedName) → ((y : SortedName) → Contains hand y → x.name ≡ y.name → x.sort ≡ y.sort) → AllByRecursion (Contains hand) ys → AllByRecursion (λ y. x.name ≡ y.name → x.sort ≡ y.sort) ys
 each_one x hand ys one h = all_map (Contains hand) (λ y. x.name ≡ y.name → x.sort ≡ y.sort) ys one h

@@ -4,7 +4,7 @@ ghost use Rattle.std.specs.Option.{option_map};
 ghost use Rattle.std.specs.Str.{bytes_eq};
 ghost use Rattle.kp_signature.specs.View.{signature_view};
 ghost use Rattle.kp_kore.specs.Signature.{KoreSignature};
-ghost use Rattle.kp_symbolic.specs.Heads.{is_constructor_head, passes_head};
+ghost use Rattle.kp_symbolic.specs.Heads.{passes_head};
 ghost use Rattle.kp_symbolic.specs.Plain as model;
 ghost use Rattle.kp_heads.specs.Made.{IsHeadTableOf};
 ghost use Rattle.kp_sort_heads.specs.Views.{head_view};
@@ -16,18 +16,8 @@ ghost use Rattle.kp_satisfiability.specs.Heads as spec;
 use kp_heads::HeadTable;
 use kp_literals::{AskedHeads, LiteralForm, ReadLiteral};
 use kp_signature::Signature;
-use kp_sort_heads::{SortHead, heads, is_head};
+use kp_sort_heads::{SortHead, heads, is_head, is_named};
 use kp_symbolic::Variable;
-
-/// Whether the head is the constructor of this name.
-fn is_named(head: &SortHead, name: &str) -> bool
-    ensures { result ≡ is_constructor_head name.now (head_view head.now) }
-{
-    match head {
-        SortHead::Constructor { declaration } => declaration.name.as_str() == name,
-        SortHead::Integers | SortHead::Booleans | SortHead::Tokens { .. } => false,
-    }
-}
 
 /// Whether the head passes the test.
 fn passes(signature: &Signature, head: &SortHead, test: AskedHeads) -> bool

@@ -10,12 +10,12 @@ use Rattle.kp_kore.specs.Signature.{KoreSignature, has_hook, declared_sort, othe
 use Rattle.kp_kore.specs.Parts.{sort_list}
 use Rattle.kp_kore.specs.View.{names_view, sorts_view}
 use Rattle.kp_kore.specs.declared.sort.Sort.{Sort}
+use Rattle.kp_kore.proofs.SameLemmas.{sorts_equal-Decides}
 use Rattle.kp_signature.specs.Alone.{holds_of, numbers_stand_alone, truths_stand_alone, no_tokens_below, no_constructors_below, no_other_heads, none_but_own}
 use Rattle.kp_signature.specs.Kinds.{holds_tokens}
 use Rattle.kp_signature.specs.Table.{name_hooked, name_other_than}
 use Rattle.kp_signature.proofs.KnownSorts.{number_of_sorts}
 use Rattle.kp_signature.proofs.Below.{is_below-Decides}
-use Rattle.kp_signature.proofs.Same.{sorts_equal-Decides}
 
 -- ---- heads of one kind
 
@@ -30,7 +30,7 @@ tokens_step are keep zs n (p ∷ ps) = by (keep (tokens p.0)) (tokens_step are k
     by true e = n p.0 (filter keep (map tokens (map (λ q. q.0) ps) ++ zs))
     by false e = e
 
-constructors_step : (are : List Head → Bool) (keep : Head → Bool) → are [] ≡ true → ((c : Text) (hs : List Head) → are (constructor_of c ∷ hs) ≡ false) → (ds : List SymbolDeclaration) →
+pub constructors_step : (are : List Head → Bool) (keep : Head → Bool) → are [] ≡ true → ((c : Text) (hs : List Head) → are (constructor_of c ∷ hs) ≡ false) → (ds : List SymbolDeclaration) →
     are (filter keep (map (λ d. constructor_of d.name) ds)) ≡ list_all (λ d. not (keep (constructor_of d.name))) ds
 constructors_step are keep z n [] = z
 constructors_step are keep z n (d ∷ ds) = by (keep (constructor_of d.name)) (constructors_step are keep z n ds)
@@ -169,7 +169,7 @@ booleans_are g o e = by_names o ∙ ap (option_map plain) e ∙ boolean_named g
 
 -- ---- below
 
-by_both : (b c : Bool) → (b ≡ true → c ≡ true) → (c ≡ true → b ≡ true) → b ≡ c
+pub by_both : (b c : Bool) → (b ≡ true → c ≡ true) → (c ≡ true → b ≡ true) → b ≡ c
 by_both true c f h = sym (f refl)
 by_both false true f h = h refl
 by_both false false f h = refl

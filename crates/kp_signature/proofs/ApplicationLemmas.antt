@@ -2,7 +2,7 @@
 use Rattle.std.proofs.Common.{◌≡◌, refl, sym, ap, subst, ◌∙◌, Bool, true, false, not, ◌&&◌, ◌||◌, length, Option, Some, None}
 use Rattle.std.specs.Prelude.{◌==◌}
 use Rattle.std.proofs.lemmas.Bool.Decides.{Decides-eqb}
-use Rattle.kp_kore.specs.Syntax.{Text, KoreSort, KoreSorts, no_sorts, next_sort, KorePatterns, application, SymbolDeclaration, AliasDeclaration}
+use Rattle.kp_kore.specs.Syntax.{Text, KoreSort, KoreSorts, no_sorts, next_sort, KorePatterns, application, SymbolDeclaration}
 use Rattle.kp_kore.specs.Parts.{sort_list, pattern_list}
 use Rattle.kp_kore.specs.Signature.{KoreSignature, SymbolMeaning, injection, construction, interpretation, foreign, meaning_of, symbol_meaning, symbol_declared, alias_declared, is_injection, is_identity, is_constructor, is_plain, fitting_hook, IsBelow, is_below, itself}
 use Rattle.kp_kore.specs.Sorting.{at_arguments, all_at_arguments, result_sort}
@@ -11,38 +11,25 @@ use Rattle.kp_kore.specs.Instance.{only_value, applied}
 use Rattle.kp_kore.specs.Foreign.{is_foreign_meaning}
 use Rattle.kp_kore.proofs.InstanceLemmas.{first_true, second_true}
 use Rattle.kp_signature.specs.Places.{Profile, profile_of, argument_sorts}
-use Rattle.kp_signature.specs.Verify.{VerifyFault, fault_unless, symbol_fault, injection_fault, wrong_number, sort_differs}
-use Rattle.kp_signature.proofs.Applied.{of_profile, as_many}
+use Rattle.kp_signature.specs.Verify.{symbol_fault, injection_fault, wrong_number, sort_differs}
+use Rattle.kp_signature.proofs.Applied.{of_profile, as_many, of_declared}
 use Rattle.kp_signature.proofs.Below.{is_below-Decides}
 use Rattle.kp_signature.proofs.FaultLemmas.{no_fault_unless}
 use Rattle.kp_signature.proofs.SortLemmas.{has_sort_above, at_no_arguments, all_at_no_arguments, same_inside}
 use Rattle.kp_signature.proofs.CallLemmas.{call_is_sorted}
 use Rattle.kp_signature.proofs.InjLemmas.{inj_goes_across}
 use Rattle.kp_signature.proofs.MeaningLemmas.{an_injection, a_construction, an_interpretation, it_fits, no_parameters, constructor_is_plain}
+use Rattle.kp_signature.proofs.OwnSorts.{profile_by, result_by}
 
 -- ---- what the first declaration of a name gives
 
-abbrev meaning_by : KoreSignature → Option SymbolDeclaration → SymbolMeaning
+abbrev pub meaning_by : KoreSignature → Option SymbolDeclaration → SymbolMeaning
 meaning_by g (Some d) = symbol_meaning g d
 meaning_by g None = foreign
 
-abbrev result_by : KoreSorts → Option SymbolDeclaration → Option AliasDeclaration → Option KoreSort
-result_by ss (Some d) a = Some (at_arguments d.parameters ss d.result)
-result_by ss None (Some a) = Some (at_arguments a.parameters ss a.result)
-result_by ss None None = None
-
-abbrev profile_by : Option SymbolDeclaration → Option AliasDeclaration → Option Profile
-profile_by (Some d) a = Some (record { parameters = d.parameters; arguments = d.arguments })
-profile_by None (Some a) = Some (record { parameters = a.parameters; arguments = a.arguments })
-profile_by None None = None
-
-abbrev sorts_by : KoreSorts → Option Profile → KoreSorts
+abbrev pub sorts_by : KoreSorts → Option Profile → KoreSorts
 sorts_by ss (Some k) = all_at_arguments k.parameters ss k.arguments
 sorts_by ss None = no_sorts
-
-abbrev upwards_by : KoreSignature → KoreSort → KoreSort → Option SymbolDeclaration → Option VerifyFault
-upwards_by g a b (Some d) = fault_unless (not (is_injection d) || is_below g.subsorts a b) (sort_differs b a)
-upwards_by g a b None = None
 
 meaning_at : (g : KoreSignature) (f : Text) (d : SymbolDeclaration) → symbol_declared g f ≡ Some d → meaning_of g f ≡ symbol_meaning g d
 meaning_at g f d e = ap (meaning_by g) e
@@ -53,7 +40,7 @@ sorts_at g f ss d e = ap (λ o. sorts_by ss (profile_by o (alias_declared g f)))
 result_at : (g : KoreSignature) (f : Text) (ss : KoreSorts) (s : KoreSort) (d : SymbolDeclaration) → symbol_declared g f ≡ Some d → result_sort g f ss ≡ Some s → at_arguments d.parameters ss d.result ≡ s
 result_at g f ss s d e r = same_inside (at_arguments d.parameters ss d.result) s (sym (ap (λ o. result_by ss o (alias_declared g f)) e) ∙ r)
 
-as_many_sorts : (g : KoreSignature) (f : Text) (ss : KoreSorts) (ps : KorePatterns) (d : SymbolDeclaration) → symbol_declared g f ≡ Some d → symbol_fault g (application f ss ps) ≡ None → length d.parameters ≡ length (sort_list ss)
+pub as_many_sorts : (g : KoreSignature) (f : Text) (ss : KoreSorts) (ps : KorePatterns) (d : SymbolDeclaration) → symbol_declared g f ≡ Some d → symbol_fault g (application f ss ps) ≡ None → length d.parameters ≡ length (sort_list ss)
 as_many_sorts g f ss ps d e h =
     let test = length d.parameters == length (sort_list ss) in
     let other = length (sort_list d.arguments) == length (pattern_list ps) in
@@ -72,10 +59,10 @@ as_many_arguments g f ss ps h = by (profile_of g f) h
         as_many k.parameters ss k.arguments
         ∙ (Decides-eqb (length (sort_list k.arguments)) (length (pattern_list ps))).0 (second_true test other (no_fault_unless (test && other) (wrong_number f) e))
 
-goes_upwards : (g : KoreSignature) (f : Text) (a b : KoreSort) (ps : KorePatterns) (d : SymbolDeclaration) → symbol_declared g f ≡ Some d → is_injection d ≡ true →
+pub goes_upwards : (g : KoreSignature) (f : Text) (a b : KoreSort) (ps : KorePatterns) (d : SymbolDeclaration) → symbol_declared g f ≡ Some d → is_injection d ≡ true →
     injection_fault g (application f (next_sort a (next_sort b no_sorts)) ps) ≡ None → IsBelow g.subsorts a b
 goes_upwards g f a b ps d e inj h =
-    (is_below-Decides g.subsorts a b).0 (by (is_injection d) (is_below g.subsorts a b) inj (no_fault_unless (not (is_injection d) || is_below g.subsorts a b) (sort_differs b a) (sym (ap (upwards_by g a b) e) ∙ h)))
+    (is_below-Decides g.subsorts a b).0 (by (is_injection d) (is_below g.subsorts a b) inj (no_fault_unless (not (is_injection d) || is_below g.subsorts a b) (sort_differs b a) (sym (ap (of_declared g a b) e) ∙ h)))
   where
     by : (i below : Bool) → i ≡ true → not i || below ≡ true → below ≡ true
     by true below i t = t

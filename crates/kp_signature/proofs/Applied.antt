@@ -35,7 +35,7 @@ other_number g f ss ps k is n = ap (of_profile ss ps f) (sym is) ∙ by (length 
     by true b e = ap (λ t. fault_unless t (wrong_number f)) e
     by false b e = refl
 
-abbrev of_declared : KoreSignature → KoreSort → KoreSort → Option SymbolDeclaration → Option VerifyFault
+abbrev pub of_declared : KoreSignature → KoreSort → KoreSort → Option SymbolDeclaration → Option VerifyFault
 of_declared g a b (Some d) = fault_unless (not (is_injection d) || is_below g.subsorts a b) (sort_differs b a)
 of_declared g a b None = None
 

@@ -4,7 +4,7 @@ use Rattle.std.specs.Bool.{Decides}
 use Rattle.std.proofs.lemmas.List.Elements.{Contains-append_right}
 use Rattle.kp_kore.specs.Syntax.{KoreSort}
 use Rattle.kp_kore.specs.Signature.{IsBelow, is_below, itself, through}
-use Rattle.kp_signature.proofs.Same.{sorts_equal-Decides}
+use Rattle.kp_kore.proofs.SameLemmas.{sorts_equal-Decides}
 
 -- an element of a list is the first or one of the others
 pub first_or_other : {A : Type 0} (p x : A) (ps : List A) (k : ℕ) → k < length (p ∷ ps) → slice_index_or (p ∷ ps) k x ≡ x → (p ≡ x) ⊎ Contains ps x

@@ -8,10 +8,10 @@ use Rattle.std.proofs.lemmas.Grind.{not_there}
 use Rattle.std.proofs.lemmas.List.Elements.{Contains-append_right}
 use Rattle.kp_kore.specs.Syntax.{KoreSort}
 use Rattle.kp_kore.specs.Attributes.{sorts_equal}
+use Rattle.kp_kore.proofs.SameLemmas.{sorts_equal-Decides}
 use Rattle.kp_signature.specs.Edges.{IsNumber}
 use Rattle.kp_signature.proofs.Below.{first_or_other}
 use Rattle.kp_signature.proofs.EdgeLemmas.{nothing_there}
-use Rattle.kp_signature.proofs.Same.{sorts_equal-Decides}
 
 -- a test decides it
 pub record IsDecided (P : Type 0) : Type 0 where

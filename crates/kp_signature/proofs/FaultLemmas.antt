@@ -4,10 +4,10 @@ use Rattle.kp_kore.specs.Syntax.{KoreSort, KorePattern, variable, literal, appli
 use Rattle.kp_kore.specs.Parts.{is_term}
 use Rattle.kp_kore.specs.Attributes.{sorts_equal}
 use Rattle.kp_kore.specs.Signature.{KoreSignature}
+use Rattle.kp_kore.proofs.SameLemmas.{sorts_equal-Decides}
 use Rattle.kp_signature.specs.Places.{Place, earlier, own_sort}
 use Rattle.kp_signature.specs.Verify.{VerifyFault, fault_unless, difference, fault_at, first_fault, sort_fault, symbol_fault, variable_fault, injection_fault, literal_fault}
 use Rattle.kp_signature.proofs.OwnSorts.{has_a_sort}
-use Rattle.kp_signature.proofs.Same.{sorts_equal-Decides}
 
 pub nothing_earlier : (a b : Option VerifyFault) → earlier a b ≡ None → a ≡ None
 nothing_earlier None b e = refl

@@ -2,8 +2,8 @@
 use Rattle.std.proofs.Common.{◌≡◌, refl, Bool, true, false, ap, Some, None}
 use Rattle.kp_kore.specs.Syntax.{KoreSort}
 use Rattle.kp_kore.specs.Attributes.{sorts_equal}
+use Rattle.kp_kore.proofs.SameLemmas.{sorts_equal-Decides}
 use Rattle.kp_signature.specs.Verify.{VerifyFault, fault_unless}
-use Rattle.kp_signature.proofs.Same.{sorts_equal-Decides}
 
 pub same_is_no_fault : (s t : KoreSort) (f : VerifyFault) → s ≡ t → fault_unless (sorts_equal s t) f ≡ None
 same_is_no_fault s t f e = ap (λ b. fault_unless b f) ((sorts_equal-Decides s t).1 e)

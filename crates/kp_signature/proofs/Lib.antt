@@ -37,5 +37,4 @@ pub mod NewOrder
 pub mod Numbered
 pub mod Numbers
 pub mod OrderLemmas
-pub mod Same
 pub mod SpanLemmas

@@ -9,11 +9,11 @@ use Rattle.kp_kore.specs.Parts.{SortedName, sort_list, pattern_list, free_variab
 use Rattle.kp_kore.specs.Signature.{KoreSignature}
 use Rattle.kp_kore.specs.Cases.{HaveOneSort}
 use Rattle.kp_signature.specs.Places.{earlier, Place, the_top, argument_at, part_at, after, under_binder, argument_sorts, sort_in_scope}
-use Rattle.kp_signature.specs.Verify.{VerifyFault, difference, fault_at, first_fault, arguments_fault, members_fault}
-use Rattle.kp_signature.proofs.ScopeLemmas.{scope_append}
+use Rattle.kp_signature.specs.Verify.{VerifyFault, fault_at, first_fault, arguments_fault, members_fault}
+use Rattle.kp_signature.proofs.ScopeLemmas.{scope_append, without_keeps}
 use Rattle.kp_signature.proofs.ApplicationLemmas.{as_many_arguments}
-use Rattle.kp_signature.proofs.FaultLemmas.{nothing_earlier, nothing_later, keeps_rules, same_as_wanted}
-use Rattle.kp_signature.proofs.VariableSorts.{HasItsSort, in_longer_scope}
+use Rattle.kp_signature.proofs.FaultLemmas.{nothing_earlier, nothing_later, keeps_rules}
+use Rattle.kp_signature.proofs.VariableSorts.{HasItsSort, in_longer_scope, one_variable}
 
 -- the variables have the sorts that their names have among these
 abbrev pub Agree : List SortedName → List SortedName → Type 0
@@ -37,14 +37,6 @@ agree_next scope xs ys h k =
 other_name : (x : Text) (t : KoreSort) (n : Text) (scope : List SortedName) → bytes_eq x n ≡ false → sort_in_scope n (record { name = x; sort = t } ∷ scope) ≡ sort_in_scope n scope
 other_name x t n scope h = ap (λ b. cond b (Some t) (sort_in_scope n scope)) h
 
-same_left : (x n : Text) (vs : List SortedName) → bytes_eq x n ≡ false → sort_in_scope n (without_name x vs) ≡ sort_in_scope n vs
-same_left x n [] differs = refl
-same_left x n (v ∷ vs) differs = by (bytes_eq v.name x) refl (same_left x n vs differs)
-  where
-    by : (b : Bool) → bytes_eq v.name x ≡ b → sort_in_scope n (without_name x vs) ≡ sort_in_scope n vs → sort_in_scope n (cond (not b) (v ∷ without_name x vs) (without_name x vs)) ≡ cond (bytes_eq v.name n) (Some v.sort) (sort_in_scope n vs)
-    by true e rest = rest ∙ sym (ap (λ b. cond b (Some v.sort) (sort_in_scope n vs)) (ap (λ m. bytes_eq m n) ((bytes_eq-Decides v.name x).0 e) ∙ differs))
-    by false e rest = ap (λ o. cond (bytes_eq v.name n) (Some v.sort) o) rest
-
 differ_too : (x y : Text) → bytes_eq y x ≡ false → bytes_eq x y ≡ false
 differ_too x y h = by (bytes_eq x y) refl
   where
@@ -57,7 +49,7 @@ unbound_one : (x : Text) (t : KoreSort) (scope all : List SortedName) (y : Sorte
 unbound_one x t scope all y differs h =
     let apart : bytes_eq x y.name ≡ false = differ_too x y.name differs in
     scope_append y.name scope (without_name x all)
-    ∙ ap (earlier (sort_in_scope y.name scope)) (same_left x y.name all apart)
+    ∙ ap (earlier (sort_in_scope y.name scope)) (without_keeps x y.name all apart)
     ∙ sym (scope_append y.name scope all)
     ∙ sym (other_name x t y.name (scope ++ all) apart)
     ∙ h
@@ -69,16 +61,6 @@ unbound x t scope all (y ∷ ys) h = by (bytes_eq y.name x) refl (unbound x t sc
     by : (b : Bool) → bytes_eq y.name x ≡ b → Agree (scope ++ without_name x all) (without_name x ys) → Agree (scope ++ without_name x all) (cond (not b) (y ∷ without_name x ys) (without_name x ys))
     by true e rest = rest
     by false e rest = (unbound_one x t scope all y e h.0, rest)
-
-one_variable : (x : Text) (s : KoreSort) (scope : List SortedName) → difference (sort_in_scope x scope) (Some s) ≡ None → sort_in_scope x (scope ++ record { name = x; sort = s } ∷ []) ≡ Some s
-one_variable x s scope h =
-    scope_append x scope (record { name = x; sort = s } ∷ [])
-    ∙ ap (λ b. earlier (sort_in_scope x scope) (cond b (Some s) None)) ((bytes_eq-Decides x x).1 refl)
-    ∙ by (sort_in_scope x scope) h
-  where
-    by : (o : Option KoreSort) → difference o (Some s) ≡ None → earlier o (Some s) ≡ Some s
-    by None e = refl
-    by (Some t) e = ap Some (same_as_wanted t s e)
 
 -- ---- patterns
 

@@ -16,12 +16,12 @@ nothing_later : (a b : Option VerifyFault) → earlier a b ≡ None → b ≡ No
 nothing_later None b e = e
 nothing_later (Some f) b e = absurd (cc)
 
-abbrev sort_by : KoreSorts → Option SymbolDeclaration → Option AliasDeclaration → Option KoreSort
-sort_by ss (Some d) a = Some (at_arguments d.parameters ss d.result)
-sort_by ss None (Some a) = Some (at_arguments a.parameters ss a.result)
-sort_by ss None None = None
+abbrev pub result_by : KoreSorts → Option SymbolDeclaration → Option AliasDeclaration → Option KoreSort
+result_by ss (Some d) a = Some (at_arguments d.parameters ss d.result)
+result_by ss None (Some a) = Some (at_arguments a.parameters ss a.result)
+result_by ss None None = None
 
-abbrev profile_by : Option SymbolDeclaration → Option AliasDeclaration → Option Profile
+abbrev pub profile_by : Option SymbolDeclaration → Option AliasDeclaration → Option Profile
 profile_by (Some d) a = Some (record { parameters = d.parameters; arguments = d.arguments })
 profile_by None (Some a) = Some (record { parameters = a.parameters; arguments = a.arguments })
 profile_by None None = None
@@ -29,7 +29,7 @@ profile_by None None = None
 declared : (g : KoreSignature) (f : Text) (ss : KoreSorts) (ps : KorePatterns) → result_sort g f ss ≡ None → symbol_fault g (application f ss ps) ≡ None → ⊥
 declared g f ss ps e h = by (symbol_declared g f) (alias_declared g f) e h
   where
-    by : (o : Option SymbolDeclaration) (a : Option AliasDeclaration) → sort_by ss o a ≡ None → of_profile ss ps f (profile_by o a) ≡ None → ⊥
+    by : (o : Option SymbolDeclaration) (a : Option AliasDeclaration) → result_by ss o a ≡ None → of_profile ss ps f (profile_by o a) ≡ None → ⊥
     by (Some d) a e h = absurd (cc)
     by None (Some a) e h = absurd (cc)
     by None None e h = absurd (cc)

@@ -63,7 +63,7 @@ without_hides x (v ∷ vs) = by (bytes_eq v.name x) refl (without_hides x vs)
     by true e rest = rest
     by false e rest = ap (λ b. cond b (Some v.sort) (sort_in_scope x (without_name x vs))) e ∙ rest
 
-without_keeps : (x n : Text) (vs : List SortedName) → bytes_eq x n ≡ false → sort_in_scope n (without_name x vs) ≡ sort_in_scope n vs
+pub without_keeps : (x n : Text) (vs : List SortedName) → bytes_eq x n ≡ false → sort_in_scope n (without_name x vs) ≡ sort_in_scope n vs
 without_keeps x n [] differs = refl
 without_keeps x n (v ∷ vs) differs = by (bytes_eq v.name x) refl (without_keeps x n vs differs)
   where

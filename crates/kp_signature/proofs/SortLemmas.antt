@@ -8,8 +8,8 @@ use Rattle.kp_kore.specs.Signature.{KoreSignature, Head, integers, booleans, tok
 use Rattle.kp_kore.specs.Attributes.{sorts_equal}
 use Rattle.kp_kore.specs.Sorting.{at_arguments, all_at_arguments}
 use Rattle.kp_kore.specs.Value.{Value, whole, truth, token, constructed, HasSort}
+use Rattle.kp_kore.proofs.SameLemmas.{sorts_equal-Decides}
 use Rattle.kp_signature.proofs.Below.{onwards}
-use Rattle.kp_signature.proofs.Same.{sorts_equal-Decides}
 
 head_above : (g : KoreSignature) (a b : KoreSort) (h : Head) → IsHeadOf g a h → IsBelow g.subsorts a b → IsHeadOf g b h
 head_above g a b h i below = (i.0, i.1, onwards g.subsorts i.0 a b i.2 below)

@@ -24,10 +24,10 @@ use Rattle.kp_signature.proofs.RuleSides.{sides_of, no_binders, holds_of_term}
 
 -- ---- the two sides are verified
 
-left_side_is_verified : (g : KoreSignature) (s : KoreSort) (l r : KorePattern) → first_fault g the_top (rewriting s l r) ≡ None → first_fault g (part_at the_top s) l ≡ None
+pub left_side_is_verified : (g : KoreSignature) (s : KoreSort) (l r : KorePattern) → first_fault g the_top (rewriting s l r) ≡ None → first_fault g (part_at the_top s) l ≡ None
 left_side_is_verified g s l r e = nothing_earlier _ _ (nothing_later (fault_at g the_top (rewriting s l r)) _ e)
 
-right_side_is_verified : (g : KoreSignature) (s : KoreSort) (l r : KorePattern) → first_fault g the_top (rewriting s l r) ≡ None → first_fault g (after l (part_at the_top s)) r ≡ None
+pub right_side_is_verified : (g : KoreSignature) (s : KoreSort) (l r : KorePattern) → first_fault g the_top (rewriting s l r) ≡ None → first_fault g (after l (part_at the_top s)) r ≡ None
 right_side_is_verified g s l r e = nothing_earlier _ _ (nothing_later (first_fault g (part_at the_top s) l) _ (nothing_later (fault_at g the_top (rewriting s l r)) _ e))
 
 -- where the left term stands in the left side
@@ -84,7 +84,7 @@ it_is_named xs ys e = all_weaker (λ y. not (is_named y.name xs) ≡ false) (λ 
     is_true true n = refl
     is_true false n = absurd (cc)
 
-none_on_the_right : (test : KorePattern → Bool) (s : KoreSort) (l r : KorePattern) → none_within test (rewriting s l r) ≡ true → none_within test r ≡ true
+pub none_on_the_right : (test : KorePattern → Bool) (s : KoreSort) (l r : KorePattern) → none_within test (rewriting s l r) ≡ true → none_within test r ≡ true
 none_on_the_right test s l r e =
     second_true (none_within test l) (none_within test r)
     (sym (list_all-append (λ q. not (test q)) (subpatterns l) (subpatterns r)) ∙ second_true (not (test (rewriting s l r))) (list_all (λ q. not (test q)) (subpatterns l ++ subpatterns r)) e)

@@ -25,7 +25,7 @@ HasItsSort scope x = sort_in_scope x.name scope ≡ Some x.sort
 pub in_longer_scope : (x : Text) (t : KoreSort) (xs ys : List SortedName) → sort_in_scope x xs ≡ Some t → sort_in_scope x (xs ++ ys) ≡ Some t
 in_longer_scope x t xs ys e = scope_append x xs ys ∙ ap (λ o. earlier o (sort_in_scope x ys)) e
 
-one_variable : (x : Text) (t : KoreSort) (scope : List SortedName) → difference (sort_in_scope x scope) (Some t) ≡ None → sort_in_scope x (scope ++ record { name = x; sort = t } ∷ []) ≡ Some t
+pub one_variable : (x : Text) (t : KoreSort) (scope : List SortedName) → difference (sort_in_scope x scope) (Some t) ≡ None → sort_in_scope x (scope ++ record { name = x; sort = t } ∷ []) ≡ Some t
 one_variable x t scope e = scope_append x scope (record { name = x; sort = t } ∷ []) ∙ by (sort_in_scope x scope) e
   where
     by : (o : Option KoreSort) → difference o (Some t) ≡ None → earlier o (cond (bytes_eq x x) (Some t) None) ≡ Some t

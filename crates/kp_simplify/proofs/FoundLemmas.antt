@@ -2,25 +2,23 @@
 use Rattle.std.proofs.Common.{◌≡◌, refl, sym, ap, subst, inl, List, [], ◌∷◌, Option, Some, None, Result, Ok, Err, IfOk}
 use Rattle.std.specs.Prelude.{◌≢◌, IfErr}
 use Rattle.kp_kore.specs.Syntax.{KoreSort, KorePattern}
-use Rattle.kp_kore.specs.Parts.{free_variables}
 use Rattle.kp_kore.specs.Signature.{KoreSignature, injection, meaning_of}
 use Rattle.kp_kore.specs.Sorting.{sort_of_term}
 use Rattle.kp_kore.specs.Implied as theory
 use Rattle.kp_kore.specs.Implied.{IsOfSort, state}
-use Rattle.kp_kore.specs.Instance.{conjoined_terms, conjoined_predicates}
+use Rattle.kp_kore.specs.Instance.{conjoined_terms}
 use Rattle.kp_kore.specs.Replies.{IsComputed}
 use Rattle.kp_kore.specs.Steps.{AnyByRecursion}
 use Rattle.kp_signature.specs.Places.{the_top}
 use Rattle.kp_signature.specs.Verify.{VerifiesAs}
 use Rattle.kp_compile.specs.Spelled.{injection_name}
-use Rattle.kp_symbolic.specs.Clauses.{clauses_of_conjuncts, without_repeats}
-use Rattle.kp_symbolic.specs.Folding.{folded}
 use Rattle.kp_symbolic.specs.States.{Literal, SymbolicState, HasInstancesOf}
 use Rattle.kp_symbolic.specs.Solving.{solved_at, Solving, finished, goes_on, IsReadAs}
 use Rattle.kp_symbolic.specs.WellFormed.{IsWellFormed}
 use Rattle.kp_symbolic.specs.Writing.{InjectsWhereItStands, written_predicate, written_state}
 use Rattle.kp_symbolic.specs.Endings as endings
 use Rattle.kp_symbolic.specs.Endings.{IsRightOfSimplify}
+use Rattle.kp_symbolic.proofs.OpenedState.{state_of_sort, state_of}
 use Rattle.kp_symbolic_laws.specs.Runs.{IsSoundState}
 use Rattle.kp_clauses.specs.Faults.{state_fault}
 use Rattle.kp_clauses.proofs.StateLemmas.{nothing_misplaced}
@@ -47,20 +45,11 @@ solved_sort : (g : KoreSignature) (s t : SymbolicState) → Solving g s t → s.
 solved_sort g s t (finished _ e) = refl
 solved_sort g s t (goes_on _ _ o e more) = solved_sort g (solved_at g o s) t more
 
-abbrev of_sort : KoreSignature → KorePattern → KorePattern → Option KoreSort → Option SymbolicState
-of_sort g p t (Some s) = Some (record { term = folded g [] t; sort = s; clauses = without_repeats (clauses_of_conjuncts g [] 0 (conjoined_predicates p)); variables = free_variables p })
-of_sort g p t None = None
-
-abbrev of_terms : KoreSignature → KorePattern → List KorePattern → Option SymbolicState
-of_terms g p (t ∷ []) = of_sort g p t (sort_of_term g t)
-of_terms g p [] = None
-of_terms g p (t ∷ u ∷ ts) = None
-
-sort_there : (g : KoreSignature) (p t : KorePattern) (o : Option KoreSort) (s : SymbolicState) → of_sort g p t o ≡ Some s → o ≡ Some s.sort
+sort_there : (g : KoreSignature) (p t : KorePattern) (o : Option KoreSort) (s : SymbolicState) → state_of_sort g p t o ≡ Some s → o ≡ Some s.sort
 sort_there g p t (Some a) s e = ap Some (ap (λ x. x.sort) (inside e))
 sort_there g p t None s e = absurd (cc)
 
-opened_sort : (g : KoreSignature) (p : KorePattern) (ts : List KorePattern) (s : SymbolicState) → of_terms g p ts ≡ Some s → AnyByRecursion (λ t. sort_of_term g t ≡ Some s.sort) ts
+opened_sort : (g : KoreSignature) (p : KorePattern) (ts : List KorePattern) (s : SymbolicState) → state_of g p ts ≡ Some s → AnyByRecursion (λ t. sort_of_term g t ≡ Some s.sort) ts
 opened_sort g p (t ∷ []) s e = inl (sort_there g p t (sort_of_term g t) s e)
 opened_sort g p [] s e = absurd (cc)
 opened_sort g p (t ∷ u ∷ ts) s e = absurd (cc)

@@ -61,7 +61,7 @@ room_told n d f is = told (2 ^ 64 - 1) n (size_of f).literals d.size.literals wi
 kept : (n : ℕ) (f : Formula Literal) → nat_lt 16384 (n + (size_of f).literals) ≡ false → (distribution_of f).clauses ≡ distributed f
 kept n f h = ap (λ b. if b then [] else distributed f) (few (min (size_of f).literals 16385) (within n (size_of f).literals (under_so 16384 (n + (size_of f).literals) h)))
 
-turned : (a b : Bool) → a ≡ not b → b ≡ not a
+pub turned : (a b : Bool) → a ≡ not b → b ≡ not a
 turned true true e = absurd (cc)
 turned true false e = refl
 turned false true e = refl

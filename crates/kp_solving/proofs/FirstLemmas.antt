@@ -2,10 +2,11 @@
 use Rattle.std.proofs.Common.{◌≡◌, refl, sym, ap, ap₂, ◌∙◌, arith, ℕ, zero, suc, ◌+◌, ◌<◌, ◌≤◌, min, Bool, true, false, not, ◌&&◌, ◌||◌, List, [], ◌∷◌, ◌++◌, map, length, take, drop, get_or, Option, Some, None}
 use Rattle.std.specs.Prelude.{if◌then◌else◌, nat_le}
 use Rattle.std.specs.List.{list_all, list_any}
-use Rattle.std.proofs.lemmas.List.{take_more, drop_more}
+use Rattle.std.proofs.lemmas.List.{take_more}
 use Rattle.kp_kore.specs.Syntax.{Text}
 use Rattle.kp_kore.specs.Signature.{KoreSignature}
 use Rattle.kp_kore.specs.Instance.{is_named}
+use Rattle.kp_kore.proofs.ListLemmas.{one_left, none_left}
 use Rattle.kp_symbolic.specs.Terms.{term_variables}
 use Rattle.kp_symbolic.specs.States.{Literal, clause_variables, SymbolicState}
 use Rattle.kp_symbolic.specs.Plain.{stands_alone}
@@ -14,15 +15,6 @@ use Rattle.kp_symbolic.specs.View.{literal_view, clause_view, clauses_view}
 use Rattle.kp_symbolic.specs.declared.clause.Clause.{Clause}
 use Rattle.kp_symbolic.specs.declared.clause.Literal.{Literal as Written}
 use Rattle.kp_solving.specs.Solvables.{solvable_of}
-
-one_left : {X : Type 0} (xs : List X) (i : ℕ) (x : X) → i < length xs → x ≡ get_or xs i x → drop i xs ≡ x ∷ drop (i + 1) xs
-one_left xs i x h e = drop_more xs i x h ∙ ap (λ y. y ∷ drop (i + 1) xs) (sym e)
-
-none_left : {X : Type 0} (xs : List X) (i : ℕ) → length xs ≤ i → drop i xs ≡ []
-none_left [] zero h = refl
-none_left [] (suc i) h = refl
-none_left (x ∷ xs) zero h = absurd (omega arith)
-none_left (x ∷ xs) (suc i) h = none_left xs i (omega arith)
 
 -- ---- how many literals
 

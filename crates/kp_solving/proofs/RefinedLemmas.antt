@@ -1,70 +1,23 @@
 -- A state in which a variable is a term has the instances that it had where the variable's value is the term's.
-use Rattle.std.proofs.Common.{◌≡◌, sym, ◌∙◌, ℕ, ◌+◌, Bool, true, false, not, List, [], ◌∷◌, ◌++◌, length, Some, ◌↔◌}
-use Rattle.std.specs.Prelude.{if◌then◌else◌}
+use Rattle.std.proofs.Common.{◌≡◌, sym, ◌∙◌, ℕ, ◌+◌, true, List, [], ◌∷◌, ◌++◌, length, Some, ◌↔◌}
 use Rattle.std.specs.List.{AllByRecursion}
 use Rattle.kp_kore.specs.Syntax.{KoreSort}
-use Rattle.kp_kore.specs.Parts.{SortedName, free_variables}
+use Rattle.kp_kore.specs.Parts.{SortedName}
 use Rattle.kp_kore.specs.Signature.{KoreSignature}
 use Rattle.kp_kore.specs.Value.{Value}
-use Rattle.kp_kore.specs.Instance.{Valuation, AgreesOn, is_named}
-use Rattle.kp_kore.proofs.TruthLemmas.{same_truth}
-use Rattle.kp_symbolic.specs.Terms.{unknown, term_instance, term_variables, under_replaced}
-use Rattle.kp_symbolic.specs.Formulas.{NoneHold}
-use Rattle.kp_symbolic.specs.States.{quoted, same, Literal, IsLiteralTrue, IsClauseTrue, AreTrue, AreGiven, clause_variables, SymbolicState, IsStateInstance}
+use Rattle.kp_kore.specs.Instance.{Valuation}
+use Rattle.kp_symbolic.specs.Terms.{unknown, term_instance, term_variables}
+use Rattle.kp_symbolic.specs.States.{same, Literal, IsClauseTrue, AreTrue, AreGiven, SymbolicState, IsStateInstance}
 use Rattle.kp_symbolic.specs.WellFormed.{IsWellSorted}
 use Rattle.kp_symbolic.specs.Folding.{replaced}
-use Rattle.kp_symbolic.specs.Clauses.{distributed, is_too_large}
-use Rattle.kp_symbolic.specs.Writing.{IsSaid, written_clause}
-use Rattle.kp_symbolic.specs.Solving.{Equation, replacement, all_opened_with, is_single, opened_clause, solved_clause, literals_in, solved_clauses, IsReadyAtom}
+use Rattle.kp_symbolic.specs.Solving.{Equation, replacement, solved_clause, literals_in, solved_clauses, IsReadyAtom}
 use Rattle.kp_symbolic.proofs.Distribution.{all_both, all_first, all_second}
 use Rattle.kp_symbolic.proofs.Equations.{IsMet}
-use Rattle.kp_symbolic.proofs.Leaf.{formula_says, one_literal, once_says, then_says}
-use Rattle.kp_symbolic.proofs.Replacing.{solved_term_is, one_replaced}
-use Rattle.kp_symbolic.proofs.Solved.{atom_solved}
+use Rattle.kp_symbolic.proofs.Leaf.{one_literal, once_says}
+use Rattle.kp_symbolic.proofs.Replacing.{solved_term_is}
+use Rattle.kp_symbolic.proofs.Solved.{clause_solved, AreReady}
 use Rattle.kp_symbolic.proofs.WellSorted.{sorted_written}
-use Rattle.kp_symbolic.proofs.Written.{clause_said}
 use Rattle.kp_solving.specs.Further.{equality_clause, refined}
-
--- ---- a clause with the term in the variable's place
-
-abbrev AreReady : KoreSignature → Valuation → KoreSort → Equation → List Literal → Type 0
-AreReady g v sort e = AllByRecursion (λ l. IsReadyAtom g v sort e l.atom)
-
-none_solved : (g : KoreSignature) (v : Valuation) (sort : KoreSort) (e : Equation) (alone : Bool) (c : List Literal) → IsMet g v e → AreReady g v sort e c → NoneHold (IsLiteralTrue g v) (all_opened_with g e alone c) ↔ AllByRecursion (λ l. ¬ IsLiteralTrue g v l) c
-none_solved g v sort e alone [] m h = ((λ a. a), (λ a. a))
-none_solved g v sort e alone (l ∷ c) m h =
-    let i = atom_solved g v sort e alone l.holds l.atom m h.0 in
-    let j = none_solved g v sort e alone c m h.1 in
-    ((λ a. ((λ t. a.0 (i.1 t)), j.0 a.1)), (λ a. ((λ t. a.0 (i.0 t)), j.1 a.1)))
-
-opened_clause_says : (g : KoreSignature) (v : Valuation) (sort : KoreSort) (e : Equation) (c : List Literal) → IsMet g v e → AreReady g v sort e c → AreTrue g v (distributed (opened_clause g e c)) ↔ IsClauseTrue g v c
-opened_clause_says g v sort e c m h =
-    let i = none_solved g v sort e (is_single c) c m h in
-    then_says (formula_says g v (opened_clause g e c)) ((λ n f. n (i.1 f)), (λ n f. n (i.0 f)))
-
-everywhere : (g : KoreSignature) (v : Valuation) (e : Equation) (xs : List SortedName) → IsMet g v e → AgreesOn xs v (under_replaced g (replacement e) v)
-everywhere g v e [] m = tt
-everywhere g v e (x ∷ xs) m = (one_replaced g v e.variable.name e.term m x.name, everywhere g v e xs m)
-
-all_said : (g : KoreSignature) (v : Valuation) (sort : KoreSort) (e : Equation) (c : List Literal) → AreReady g v sort e c → AllByRecursion (λ l. IsSaid g v sort l.atom) c
-all_said g v sort e [] h = tt
-all_said g v sort e (l ∷ c) h = (h.0.said, all_said g v sort e c h.1)
-
-quoted_clause_says : (g : KoreSignature) (v : Valuation) (sort : KoreSort) (e : Equation) (c : List Literal) → IsMet g v e → AreReady g v sort e c → AreTrue g v ((record { holds = true; atom = quoted (written_clause g sort c) (replacement e) } ∷ []) ∷ []) ↔ IsClauseTrue g v c
-quoted_clause_says g v sort e c m h =
-    let k = same_truth g (written_clause g sort c) v (under_replaced g (replacement e) v) (everywhere g v e (free_variables (written_clause g sort c)) m) in
-    then_says (one_literal g v (record { holds = true; atom = quoted (written_clause g sort c) (replacement e) })) (then_says (k.1, k.0) (clause_said g v sort c (all_said g v sort e c h)))
-
-by_case : (g : KoreSignature) (v : Valuation) (b d : Bool) (xs bs cs : List (List Literal)) (A : Type 0) → AreTrue g v xs ↔ A → AreTrue g v bs ↔ A → AreTrue g v cs ↔ A → AreTrue g v (if b then xs else if d then bs else cs) ↔ A
-by_case g v true d xs bs cs A i j k = i
-by_case g v false true xs bs cs A i j k = j
-by_case g v false false xs bs cs A i j k = k
-
-clause_solved : (g : KoreSignature) (v : Valuation) (sort : KoreSort) (e : Equation) (n : ℕ) (c : List Literal) → IsMet g v e → AreReady g v sort e c → AreTrue g v (solved_clause g sort e n c) ↔ IsClauseTrue g v c
-clause_solved g v sort e n c m h = by_case g v (not (is_named e.variable.name (clause_variables c))) (is_too_large n (opened_clause g e c)) (c ∷ []) ((record { holds = true; atom = quoted (written_clause g sort c) (replacement e) } ∷ []) ∷ []) (distributed (opened_clause g e c)) (IsClauseTrue g v c)
-    ((λ a. a.0), (λ a. (a, tt)))
-    (quoted_clause_says g v sort e c m h)
-    (opened_clause_says g v sort e c m h)
 
 -- ---- all clauses, the equation's own behind them
 

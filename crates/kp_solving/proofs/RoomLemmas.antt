@@ -3,14 +3,16 @@ use Rattle.std.proofs.Common.{◌≡◌, refl, sym, ap, ◌∙◌, subst, arith,
 use Rattle.std.specs.Option.{option_map}
 use Rattle.kp_kore.specs.Syntax.{KoreSort}
 use Rattle.kp_kore.specs.Signature.{KoreSignature}
+use Rattle.kp_kore.proofs.ListLemmas.{one_left, none_left}
 use Rattle.kp_symbolic.specs.Formulas.{size_of}
 use Rattle.kp_symbolic.specs.States.{Literal, SymbolicState}
 use Rattle.kp_symbolic.specs.Solving.{Equation, Solvable, opened_clause, solved_clause, literals_in, first_solvable, solved_at}
 use Rattle.kp_symbolic_laws.specs.Runs.{ComesBy, begins, goes_by, IfKeptWhole, OfKeptWhole, OfKeptAt, OfEachKept}
 use Rattle.kp_symbolic.specs.View.{clause_view, clauses_view}
 use Rattle.kp_symbolic.specs.declared.clause.Clause.{Clause}
+use Rattle.kp_clauses.proofs.ConjunctLemmas.{same_test, still_same}
 use Rattle.kp_solving.specs.Solvables.{solved_or_kept}
-use Rattle.kp_solving.proofs.RoundLemmas.{ahead, same_test, still_same, clause_alike, equal_so, other_so, one_left, none_left, after, capped}
+use Rattle.kp_solving.proofs.RoundLemmas.{ahead, clause_alike, equal_so, other_so, after, capped}
 use Rattle.kp_solving.proofs.SettleLemmas.{first_solved}
 
 -- ---- literals before, as they are counted

@@ -1,11 +1,12 @@
 -- The clauses of a state with an equation solved, one after another, where the literals before are counted up to a bound.
-use Rattle.std.proofs.Common.{◌≡◌, refl, sym, ap, ap₂, ◌∙◌, arith, ℕ, zero, suc, ◌+◌, ◌-◌, ◌^◌, ◌<◌, ◌≤◌, min, Bool, true, false, not, List, [], ◌∷◌, ◌++◌, length, drop, get_or, Option, Some, None, nat_lt, nat_eq, subst}
+use Rattle.std.proofs.Common.{◌≡◌, refl, sym, ap, ap₂, ◌∙◌, arith, ℕ, zero, suc, ◌+◌, ◌-◌, ◌^◌, ◌<◌, ◌≤◌, min, Bool, true, false, not, List, [], ◌∷◌, ◌++◌, length, drop, get_or, Option, Some, None, nat_eq, subst}
 use Rattle.std.proofs.lemmas.Bool.Decides.{nat_tests}
-use Rattle.std.proofs.lemmas.List.{drop_more, append_assoc, append-nil, map-append}
+use Rattle.std.proofs.lemmas.List.{append_assoc, append-nil, map-append}
 use Rattle.std.specs.Prelude.{if◌then◌else◌}
 use Rattle.kp_kore.specs.Syntax.{KoreSort}
 use Rattle.kp_kore.specs.Signature.{KoreSignature}
 use Rattle.kp_kore.specs.Instance.{is_named}
+use Rattle.kp_kore.proofs.ListLemmas.{one_left, none_left}
 use Rattle.kp_symbolic.specs.Formulas.{size_of}
 use Rattle.kp_symbolic.specs.States.{Literal, clause_variables}
 use Rattle.kp_symbolic.specs.Writing.{written_clause}
@@ -13,21 +14,10 @@ use Rattle.kp_symbolic.specs.Clauses.{distributed}
 use Rattle.kp_symbolic.specs.Solving.{Equation, replacement, opened_clause, solved_clause, literals_in, solved_clauses}
 use Rattle.kp_symbolic.specs.View.{clause_view, clauses_view}
 use Rattle.kp_symbolic.specs.declared.clause.Clause.{Clause}
+use Rattle.kp_clauses.proofs.ConjunctLemmas.{same_test, still_same}
 use Rattle.kp_solving.specs.Solvables.{quoted_clause, solved_or_kept}
 
 -- ---- literals before, as they are counted
-
-pub same_test : (m n l : ℕ) → min m 16385 ≡ min n 16385 → nat_lt 16384 (m + l) ≡ nat_lt 16384 (n + l)
-same_test m n l e = by (nat_lt 16384 (m + l)) (nat_lt 16384 (n + l)) refl refl
-  where
-    by : (a b : Bool) → nat_lt 16384 (m + l) ≡ a → nat_lt 16384 (n + l) ≡ b → nat_lt 16384 (m + l) ≡ nat_lt 16384 (n + l)
-    by true true p q = p ∙ sym q
-    by false false p q = p ∙ sym q
-    by true false p q = absurd (grind (arith, nat_tests))
-    by false true p q = absurd (grind (arith, nat_tests))
-
-pub still_same : (m n k l : ℕ) → min m 16385 ≡ min n 16385 → k ≡ l → min (m + k) 16385 ≡ min (n + l) 16385
-still_same m n k l e d = omega (arith, e, d)
 
 pub clause_alike : (g : KoreSignature) (sort : KoreSort) (e : Equation) (m n : ℕ) (c : List Literal) → min m 16385 ≡ min n 16385 → solved_clause g sort e m c ≡ solved_clause g sort e n c
 clause_alike g sort e m n c same =
@@ -77,15 +67,6 @@ other_step g sort e n (suc i) (suc p) c cs h = other_step g sort e n i p c cs (�
 step : (g : KoreSignature) (sort : KoreSort) (e : Equation) (n i p : ℕ) (own : Bool) (c : List Literal) (cs : List (List Literal)) → own ≡ nat_eq i p → solved_clauses g sort e n (ahead i p) (c ∷ cs) ≡ with_rest g sort e n own (ahead (suc i) p) c cs
 step g sort e n i p true c cs is = subst (λ k. solved_clauses g sort e n (ahead i k) (c ∷ cs) ≡ with_rest g sort e n true (ahead (suc i) k) c cs) (equal_so i p (sym is)) (own_step g sort e n i c cs)
 step g sort e n i p false c cs is = other_step g sort e n i p c cs (other_so i p (sym is))
-
-pub one_left : {X : Type 0} (xs : List X) (i : ℕ) (x : X) → i < length xs → x ≡ get_or xs i x → drop i xs ≡ x ∷ drop (i + 1) xs
-one_left xs i x h e = drop_more xs i x h ∙ ap (λ y. y ∷ drop (i + 1) xs) (sym e)
-
-pub none_left : {X : Type 0} (xs : List X) (i : ℕ) → length xs ≤ i → drop i xs ≡ []
-none_left [] zero h = refl
-none_left [] (suc i) h = refl
-none_left (x ∷ xs) zero h = absurd (omega arith)
-none_left (x ∷ xs) (suc i) h = none_left xs i (omega arith)
 
 pub after : (i : ℕ) → suc i ≡ i + 1
 after i = omega arith

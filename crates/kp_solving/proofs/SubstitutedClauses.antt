@@ -1,5 +1,5 @@
 -- A clause that holds variables in the place of which terms stand, where its literals and those before it are counted up to a bound.
-use Rattle.std.proofs.Common.{◌≡◌, refl, sym, ap, ◌∙◌, ℕ, ◌+◌, ◌-◌, ◌^◌, ◌≤◌, ◌<◌, min, Bool, true, false, not, List, [], ◌∷◌, nat_lt, nat_le, arith}
+use Rattle.std.proofs.Common.{◌≡◌, sym, ap, ◌∙◌, ℕ, ◌+◌, ◌≤◌, min, true, false, not, List, [], ◌∷◌, nat_lt, arith}
 use Rattle.std.proofs.lemmas.Bool.Decides.{nat_tests}
 use Rattle.std.specs.Prelude.{if◌then◌else◌}
 use Rattle.kp_kore.specs.Syntax.{KoreSort, KorePattern}
@@ -14,6 +14,7 @@ use Rattle.kp_formulas.specs.Distribution.{Distribution, distribution_of}
 use Rattle.kp_clause_substitution.specs.Replacing.{clause_under}
 use Rattle.kp_clause_substitution.specs.Substituted.{substituted_clause}
 use Rattle.kp_solving.specs.Holding.{holds_one, quoted_under, substituted_holding}
+use Rattle.kp_solving.proofs.ClauseLemmas.{turned}
 
 under_so : (m n : ℕ) → nat_lt m n ≡ false → n ≤ m
 under_so m n h = grind (arith, nat_tests)
@@ -29,42 +30,6 @@ kept : (n : ℕ) (f : Formula Literal) → is_too_large n f ≡ false → (distr
 kept n f h = ap (λ b. if b then [] else distributed f) (few (min (size_of f).literals 16385) (within n (size_of f).literals (under_so 16384 (n + (size_of f).literals) h)))
 
 -- ---- literals, counted up to a number that is larger than a state's
-
-at_most_so : (m n : ℕ) → nat_le m n ≡ true → m ≤ n
-at_most_so m n h = grind (arith, nat_tests)
-
-over_so : (m n : ℕ) → nat_le m n ≡ false → n < m
-over_so m n h = grind (arith, nat_tests)
-
-above_so : (m n : ℕ) → nat_lt m n ≡ true → m < n
-above_so m n h = grind (arith, nat_tests)
-
-wide : 16384 < 2 ^ 64 - 1
-wide = omega arith
-
-fits : (most n l k : ℕ) → 16384 < most → k ≡ min l 16385 → min (n + k) most ≤ 16384 → n + l ≤ 16384
-fits most n l k w e h = omega (arith, w, e, h)
-
-passes : (most n l k : ℕ) → 16384 < most → k ≡ min l 16385 → 16384 < min (n + k) most → 16384 < n + l
-passes most n l k w e h = omega (arith, w, e, h)
-
-told : (most n l k : ℕ) → 16384 < most → k ≡ min l 16385 → nat_le (min (n + k) most) 16384 ≡ not (nat_lt 16384 (n + l))
-told most n l k w e = by (nat_le (min (n + k) most) 16384) (nat_lt 16384 (n + l)) refl refl
-  where
-    by : (a b : Bool) → nat_le (min (n + k) most) 16384 ≡ a → nat_lt 16384 (n + l) ≡ b → nat_le (min (n + k) most) 16384 ≡ not (nat_lt 16384 (n + l))
-    by true false p q = p ∙ sym (ap not q)
-    by false true p q = p ∙ sym (ap not q)
-    by true true p q = let i = fits most n l k w e (at_most_so (min (n + k) most) 16384 p) in let j = above_so 16384 (n + l) q in absurd (omega (arith, i, j))
-    by false false p q = let i = passes most n l k w e (over_so (min (n + k) most) 16384 p) in let j = under_so 16384 (n + l) q in absurd (omega (arith, i, j))
-
-pub room_told : (n : ℕ) (d : Distribution) (f : Formula Literal) → d ≡ distribution_of f → nat_le (min (n + d.size.literals) (2 ^ 64 - 1)) 16384 ≡ not (is_too_large n f)
-room_told n d f is = told (2 ^ 64 - 1) n (size_of f).literals d.size.literals wide (ap (λ x. x.size.literals) is)
-
-turned : (a b : Bool) → a ≡ not b → b ≡ not a
-turned true true e = absurd (cc)
-turned true false e = refl
-turned false true e = refl
-turned false false e = absurd (cc)
 
 pub holding_opened : (g : KoreSignature) (sort : KoreSort) (qs : List Replaced) (n : ℕ) (c : List Literal) (d : Distribution) → d ≡ distribution_of (clause_under g qs c) → true ≡ not (is_too_large n (clause_under g qs c)) →
     d.clauses ≡ substituted_holding g sort qs n c

@@ -1,6 +1,6 @@
 -- A state with terms in the place of variables has the instances that it has where the variables stand for those of the terms.
 use Rattle.std.proofs.Common.{◌≡◌, refl, inl, subst, List, [], ◌∷◌, Option, Some, None}
-use Rattle.std.specs.List.{AllByRecursion, Contains, flat_map}
+use Rattle.std.specs.List.{AllByRecursion}
 use Rattle.std.proofs.lemmas.List.Elements.{All-from_recursion, All-contains}
 use Rattle.kp_kore.specs.Syntax.{KoreSort}
 use Rattle.kp_kore.specs.Parts.{SortedName, free_variables}
@@ -12,13 +12,13 @@ use Rattle.kp_symbolic.specs.States.{one_head, head_of_sort, Atom, same, has_hea
 use Rattle.kp_symbolic.specs.WellFormed.{IsWellSorted, IsWellSortedAtom, AreWellPlaced, AreAtHand}
 use Rattle.kp_symbolic.specs.Folding.{term_for}
 use Rattle.kp_symbolic.specs.Writing.{IsSaid}
-use Rattle.kp_symbolic.proofs.Distribution.{all_first, all_second}
 use Rattle.kp_symbolic.proofs.WellSorted.{term_sorted}
 use Rattle.kp_symbolic.proofs.Written.{equality_is_said}
 use Rattle.kp_symbolic_laws.specs.Runs.{IsSortedLiteral, IsWrittenAtom}
 use Rattle.kp_symbolic_laws.proofs.HeadTests.{constructor_said, sort_said}
 use Rattle.kp_symbolic_laws.proofs.Step.{at_hand_given}
 use Rattle.kp_symbolic_laws.proofs.WrittenUnder.{IsInj, written_says}
+use Rattle.kp_symbolic_laws.proofs.WrittenStates.{stand_given}
 use Rattle.kp_clause_substitution.specs.Substituted.{IsReady}
 use Rattle.kp_clause_substitution.proofs.StateLemmas.{substituted_instance}
 use Rattle.kp_solving.specs.Placing.{CanBePlaced, HasWrittenLiterals, HasInstancesUnder}
@@ -48,15 +48,6 @@ values_sorted g v qs [] p h = tt
 values_sorted g v qs (x ∷ xs) p h = (value_sorted g v qs x p.0 h.0, values_sorted g v qs xs p.1 h.1)
 
 -- ---- literals
-
--- the variables that stand in a quoted predicate have values of their sorts
-stand_given : (g : KoreSignature) (v : Valuation) (hand : List SortedName) (rs : List Replaced) (xs : List SortedName) → GivesSorts g v hand → AreAtHand (flat_map (λ x. variables_for x (replacement_for rs x.name)) xs) hand → AreGiven g rs v xs
-stand_given g v hand rs [] h a = tt
-stand_given g v hand rs (x ∷ xs) h a =
-    let At = λ (z : SortedName). Contains hand z in
-    let these = variables_for x (replacement_for rs x.name) in
-    let others = flat_map (λ z. variables_for z (replacement_for rs z.name)) xs in
-    (at_hand_given g v hand these h (all_first At these others a), stand_given g v hand rs xs h (all_second At these others a))
 
 said : (g : KoreSignature) (v : Valuation) (hand : List SortedName) (sort : KoreSort) (a : Atom) → IsInj g → GivesSorts g v hand → IsWellSortedAtom g a → AreAtHand (atom_variables a) hand → IsWrittenAtom g a → IsSaid g v sort a
 said g v hand sort (same s t u) i h w a o = equality_is_said g v sort s t u w.0 w.1 (inl i) (inl i)

@@ -1,7 +1,7 @@
 -- A state with the sorts of its places keeps them where terms of the variables' sorts stand in their places, and its variables
 -- are at hand.
-use Rattle.std.proofs.Common.{◌≡◌, refl, sym, ◌∙◌, ap, subst, ℕ, ◌+◌, Bool, true, false, not, ◌&&◌, ◌||◌, List, [], ◌∷◌, ◌++◌, Option, Some, None}
-use Rattle.std.specs.Prelude.{if◌then◌else◌, cond}
+use Rattle.std.proofs.Common.{◌≡◌, refl, sym, ◌∙◌, subst, ℕ, ◌+◌, Bool, true, false, not, ◌&&◌, ◌||◌, List, [], ◌∷◌, ◌++◌, Some, None}
+use Rattle.std.specs.Prelude.{if◌then◌else◌}
 use Rattle.std.specs.Bool.{beq}
 use Rattle.std.specs.Option.{is_some}
 use Rattle.std.specs.List.{AllByRecursion, Contains, filter, flat_map, list_any}
@@ -20,7 +20,7 @@ use Rattle.kp_symbolic.specs.States.{HeadTest, Atom, same, has_head, quoted, ato
 use Rattle.kp_symbolic.specs.WellFormed.{IsWellSortedAtom, AreWellPlaced, AreAtHand, stands_in_terms}
 use Rattle.kp_symbolic.specs.Folding.{replaced}
 use Rattle.kp_symbolic.specs.Heads.{passes_head, head_answer}
-use Rattle.kp_symbolic.specs.Opening.{fixed, literal_fact, fixed_or, head_of_call, opened_test}
+use Rattle.kp_symbolic.specs.Opening.{fixed, literal_fact, head_of_call, opened_test}
 use Rattle.kp_symbolic.specs.Alike.{literals_same}
 use Rattle.kp_symbolic.specs.Clauses.{distributed, is_too_large}
 use Rattle.kp_symbolic.specs.Writing.{written_clause}
@@ -30,12 +30,15 @@ use Rattle.kp_symbolic.proofs.Folded.{OfEach}
 use Rattle.kp_symbolic.proofs.Replacing.{replaced_variables}
 use Rattle.kp_symbolic.proofs.WellSorted.{sorted_written}
 use Rattle.kp_symbolic.proofs.SortedFolding.{replaced_sorted}
-use Rattle.kp_symbolic.proofs.Facts.{AllFacts, AllIn, clauses_have, Good, GoodTerm, opened_same_good}
+use Rattle.kp_symbolic.proofs.Facts.{AllFacts, AllIn, clauses_have, Good, GoodTerm, opened_same_good, fixed_or_good}
+use Rattle.kp_symbolic.proofs.Leaf.{named_here}
+use Rattle.kp_symbolic.proofs.KeptFacts.{opened_by}
 use Rattle.kp_symbolic_laws.specs.Runs.{HasOneSortEach, IsSortedState, IsPredicateAtom}
 use Rattle.kp_symbolic_laws.proofs.Keeping.{IsPut}
 use Rattle.kp_symbolic_laws.proofs.WrittenVariables.{written_of_these}
 use Rattle.kp_clause_substitution.specs.Replacing.{with_terms, beside, opened_under, all_opened_under, clause_under}
 use Rattle.kp_clause_substitution.specs.Substituted.{substituted_clause, substituted_clauses, substituted}
+use Rattle.kp_clause_substitution.proofs.StateLemmas.{filtered_for}
 use Rattle.kp_solving.specs.Holding.{holds_one, quoted_under}
 use Rattle.kp_solving.specs.Placing.{CanBePlaced, HasPredicates, HasOneSortThen}
 
@@ -81,15 +84,6 @@ fixed_good : (P : Literal → Type 0) (b : Bool) → AllFacts P (fixed b)
 fixed_good P true = tt
 fixed_good P false = tt
 
-answered_good : (P : Literal → Type 0) (o : Option Bool) (b : Bool) (f : Formula Literal) → AllFacts P f → AllFacts P (fixed_or o b f)
-answered_good P (Some c) b f a = fixed_good P (beq c b)
-answered_good P None b f a = a
-
-abbrev opened_by : KoreSignature → Bool → HeadTest → Formula Literal → Text → SymbolMeaning → Formula Literal
-opened_by g b test kept f construction = fixed (beq (passes_head g test (constructor_of f)) b)
-opened_by g b test kept f (interpretation h) = fixed (beq (passes_head g test (head_of_call h)) b)
-opened_by g b test kept f m = kept
-
 test_by : (g : KoreSignature) (P : Literal → Type 0) (b : Bool) (test : HeadTest) (kept : Formula Literal) (f : Text) (m : SymbolMeaning) → stands_in_terms m ≡ true → AllFacts P (opened_by g b test kept f m)
 test_by g P b test kept f construction w = fixed_good P (beq (passes_head g test (constructor_of f)) b)
 test_by g P b test kept f (interpretation h) w = fixed_good P (beq (passes_head g test (head_of_call h)) b)
@@ -98,26 +92,12 @@ test_by g P b test kept f foreign w = absurd (cc)
 
 -- a test of a well-sorted term is decided, or asks for the head of a variable of the term
 test_good : (g : KoreSignature) (new : List SortedName) (b : Bool) (s : KoreSort) (test : HeadTest) (kept : Formula Literal) (t : SymbolicTerm) → GoodTerm g new s t → AllFacts (Good g new) (opened_test g b test kept t)
-test_good g new b s test kept (unknown x) a = answered_good (Good g new) (head_answer g x.sort test) b (literal_fact b (has_head x test)) (tt, (a.1.0, tt))
+test_good g new b s test kept (unknown x) a = fixed_or_good (Good g new) (head_answer g x.sort test) b (literal_fact b (has_head x test)) (tt, (a.1.0, tt))
 test_good g new b s test kept (offset x c) a = fixed_good (Good g new) (beq (passes_head g test integers) b)
 test_good g new b s test kept (known u) a = fixed_good (Good g new) (beq (passes_head g test (head_of u)) b)
 test_good g new b s test kept (headed f ts) a = test_by g (Good g new) b test kept f (meaning_of g f) a.0.0
 
 -- ---- quoted predicates
-
--- the replacements of the names that pass the test are the same
-filtered_for : (test : Text → Bool) (qs : List Replaced) (y : Text) → test y ≡ true → replacement_for (filter (λ q. test q.name) qs) y ≡ replacement_for qs y
-filtered_for test [] y e = refl
-filtered_for test (q ∷ qs) y e = by (bytes_eq q.name y) refl (test q.name) refl (filtered_for test qs y e)
-  where
-    by : (b : Bool) → bytes_eq q.name y ≡ b → (c : Bool) → test q.name ≡ c → replacement_for (filter (λ q. test q.name) qs) y ≡ replacement_for qs y → replacement_for (cond c (q ∷ filter (λ q. test q.name) qs) (filter (λ q. test q.name) qs)) y ≡ (if b then Some q.term else replacement_for qs y)
-    by true i true f rest = rw i refl
-    by true i false f rest = absurd (no_pass (sym e ∙ ap test (sym ((bytes_eq-Decides q.name y).0 i)) ∙ f))
-      where
-        no_pass : true ≡ false → ⊥
-        no_pass h = cc
-    by false i true f rest = rw i rest
-    by false i false f rest = rest
 
 -- in the place of a variable stands the term that stood there, with the terms put in it, or else the one that is put there
 after_put : (g : KoreSignature) (qs : List Replaced) (hand new : List SortedName) (rs tail : List Replaced) (x : SortedName) → AllByRecursion (Put g qs new) hand → IsPut g hand x (replacement_for rs x.name) →
@@ -138,14 +118,6 @@ beside_put : (g : KoreSignature) (qs : List Replaced) (hand new : List SortedNam
 beside_put g qs hand new p rs x h named i = after_put g qs hand new rs (filter (λ q. is_new p rs q.name) qs) x h i
     (λ none. subst (IsPut g new x) (sym (filtered_for (is_new p rs) qs x.name (rw (named, none) refl)))
     (one_put g qs hand new x h (subst (λ o. AreAtHand (variables_for x o) hand) none i.1).0))
-
-named_here : (x : SortedName) (before xs : List SortedName) → is_named x.name (before ++ x ∷ xs) ≡ true
-named_here x [] xs = rw ((bytes_eq-Decides x.name x.name).1 refl) refl
-named_here x (y ∷ before) xs = by (bytes_eq y.name x.name) (named_here x before xs)
-  where
-    by : (b : Bool) → is_named x.name (before ++ x ∷ xs) ≡ true → b || is_named x.name (before ++ x ∷ xs) ≡ true
-    by true k = refl
-    by false k = k
 
 -- what is told of each variable that is named is told of all that stand for them
 all_named : (g : KoreSignature) (hand new : List SortedName) (rs bs : List Replaced) (all before xs : List SortedName) → before ++ xs ≡ all → ((x : SortedName) → is_named x.name all ≡ true → IsPut g hand x (replacement_for rs x.name) → IsPut g new x (replacement_for bs x.name)) →

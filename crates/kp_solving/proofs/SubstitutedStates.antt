@@ -1,10 +1,10 @@
 -- The clauses of a state with terms in the place of variables, one after another, where the literals before are counted up to a bound.
-use Rattle.std.proofs.Common.{◌≡◌, refl, sym, ap, ap₂, ◌∙◌, arith, ℕ, zero, suc, ◌+◌, ◌-◌, ◌^◌, ◌<◌, ◌≤◌, min, Bool, true, false, not, List, [], ◌∷◌, ◌++◌, length, drop, get_or, nat_lt}
-use Rattle.std.proofs.lemmas.Bool.Decides.{nat_tests}
-use Rattle.std.proofs.lemmas.List.{drop_more, append_assoc, append-nil, map-append}
+use Rattle.std.proofs.Common.{◌≡◌, refl, sym, ap, ap₂, ◌∙◌, arith, ℕ, ◌+◌, ◌-◌, ◌<◌, ◌≤◌, min, not, List, [], ◌∷◌, ◌++◌, length, drop, get_or}
+use Rattle.std.proofs.lemmas.List.{append_assoc, append-nil, map-append}
 use Rattle.std.specs.Prelude.{if◌then◌else◌}
 use Rattle.kp_kore.specs.Syntax.{KoreSort}
 use Rattle.kp_kore.specs.Signature.{KoreSignature}
+use Rattle.kp_kore.proofs.ListLemmas.{one_left, none_left}
 use Rattle.kp_symbolic.specs.Terms.{Replaced}
 use Rattle.kp_symbolic.specs.Formulas.{size_of}
 use Rattle.kp_symbolic.specs.States.{Literal}
@@ -13,23 +13,12 @@ use Rattle.kp_symbolic.specs.Clauses.{distributed}
 use Rattle.kp_symbolic.specs.Solving.{literals_in}
 use Rattle.kp_symbolic.specs.View.{clause_view, clauses_view}
 use Rattle.kp_symbolic.specs.declared.clause.Clause.{Clause}
+use Rattle.kp_clauses.proofs.ConjunctLemmas.{same_test, still_same}
 use Rattle.kp_clause_substitution.specs.Replacing.{clause_under}
 use Rattle.kp_clause_substitution.specs.Substituted.{substituted_clause, substituted_clauses}
 use Rattle.kp_solving.specs.Holding.{holds_one, quoted_under}
 
 -- ---- literals before, as they are counted
-
-same_test : (m n l : ℕ) → min m 16385 ≡ min n 16385 → nat_lt 16384 (m + l) ≡ nat_lt 16384 (n + l)
-same_test m n l e = by (nat_lt 16384 (m + l)) (nat_lt 16384 (n + l)) refl refl
-  where
-    by : (a b : Bool) → nat_lt 16384 (m + l) ≡ a → nat_lt 16384 (n + l) ≡ b → nat_lt 16384 (m + l) ≡ nat_lt 16384 (n + l)
-    by true true p q = p ∙ sym q
-    by false false p q = p ∙ sym q
-    by true false p q = absurd (grind (arith, nat_tests))
-    by false true p q = absurd (grind (arith, nat_tests))
-
-still_same : (m n k l : ℕ) → min m 16385 ≡ min n 16385 → k ≡ l → min (m + k) 16385 ≡ min (n + l) 16385
-still_same m n k l e d = omega (arith, e, d)
 
 clause_alike : (g : KoreSignature) (sort : KoreSort) (qs : List Replaced) (m n : ℕ) (c : List Literal) → min m 16385 ≡ min n 16385 → substituted_clause g sort qs m c ≡ substituted_clause g sort qs n c
 clause_alike g sort qs m n c same =
@@ -43,15 +32,6 @@ clauses_alike g sort qs m n (c ∷ cs) same =
     ap₂ (λ bs ds. bs ++ ds) is (clauses_alike g sort qs (m + literals_in (substituted_clause g sort qs m c)) (n + literals_in (substituted_clause g sort qs n c)) cs (still_same m n (literals_in (substituted_clause g sort qs m c)) (literals_in (substituted_clause g sort qs n c)) same (ap literals_in is)))
 
 -- ---- the clauses from a place on
-
-one_left : {X : Type 0} (xs : List X) (i : ℕ) (x : X) → i < length xs → x ≡ get_or xs i x → drop i xs ≡ x ∷ drop (i + 1) xs
-one_left xs i x h e = drop_more xs i x h ∙ ap (λ y. y ∷ drop (i + 1) xs) (sym e)
-
-none_left : {X : Type 0} (xs : List X) (i : ℕ) → length xs ≤ i → drop i xs ≡ []
-none_left [] zero h = refl
-none_left [] (suc i) h = refl
-none_left (x ∷ xs) zero h = absurd (omega arith)
-none_left (x ∷ xs) (suc i) h = none_left xs i (omega arith)
 
 capped : (n new : ℕ) → new ≡ min n 16385 → min n 16385 ≡ min new 16385
 capped n new e = omega (arith, e)
@@ -75,14 +55,3 @@ clauses_on g sort qs cs i n new c found made more all h there is counted both le
 
 pub clauses_all : (g : KoreSignature) (sort : KoreSort) (qs : List Replaced) (cs : List Clause) (i n : ℕ) (found all : List (List Literal)) → length cs ≤ i → found ++ substituted_from g sort qs n i cs ≡ all → found ≡ all
 clauses_all g sort qs cs i n found all h left = sym (append-nil found) ∙ sym (ap (λ ds. found ++ substituted_clauses g sort qs n (clauses_view ds)) (none_left cs i h)) ∙ left
-
--- ---- literals behind others, as they are counted
-
-wide : 16384 < 2 ^ 64 - 1
-wide = omega arith
-
-counted_once : (most n l k : ℕ) → 16384 < most → k ≡ min l most → min (min (n + k) most) 16385 ≡ min (n + l) 16385
-counted_once most n l k w e = omega (arith, w, e)
-
-pub counted_up : (n l k : ℕ) → k ≡ min l (2 ^ 64 - 1) → min (min (n + k) (2 ^ 64 - 1)) 16385 ≡ min (n + l) 16385
-counted_up n l k e = counted_once (2 ^ 64 - 1) n l k wide e

@@ -9,7 +9,7 @@ use Rattle.kp_kore.specs.Syntax.{KoreSort}
 use Rattle.kp_kore.specs.Attributes.{sorts_equal}
 use Rattle.kp_kore.specs.Signature.{KoreSignature, Head, integers, booleans, tokens, constructor_of, is_head, possible_heads, heads_of, IsHeadOf}
 use Rattle.kp_kore.proofs.ListLemmas.{all_append, all_right}
-use Rattle.kp_signature.proofs.Same.{sorts_equal-Decides}
+use Rattle.kp_kore.proofs.SameLemmas.{sorts_equal-Decides}
 use Rattle.kp_signature.proofs.HeadLemmas.{passed_by_heads}
 use Rattle.kp_heads.specs.Heads.{IsLive}
 use Rattle.kp_sort_heads.specs.Live.{Passed}

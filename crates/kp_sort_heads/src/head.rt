@@ -5,6 +5,7 @@ ghost use Rattle.kp_kore.specs.Signature.{is_own_below};
 ghost use Rattle.kp_kore.specs.Syntax.{KoreSort};
 ghost use Rattle.kp_kore.specs.View.{sort_view, symbol_sentence_view};
 ghost use Rattle.kp_signature.specs.View.{signature_view};
+ghost use Rattle.kp_symbolic.specs.Heads.{is_constructor_head};
 ghost use Rattle.kp_heads.specs.Heads.{IsLive};
 ghost use Rattle.kp_heads.specs.Made.{IsHeadTableOf};
 ghost use Rattle.kp_sort_heads.specs.Views.{head_view};
@@ -22,6 +23,16 @@ pub enum SortHead<'a> {
     Booleans,
     Tokens { sort: &'a Sort },
     Constructor { declaration: &'a SymbolSentence },
+}
+
+/// Whether the head is the constructor of this name.
+pub fn is_named(head: &SortHead, name: &str) -> bool
+    ensures { result ≡ is_constructor_head name.now (head_view head.now) }
+{
+    match head {
+        SortHead::Constructor { declaration } => declaration.name.as_str() == name,
+        SortHead::Integers | SortHead::Booleans | SortHead::Tokens { .. } => false,
+    }
 }
 
 /// Whether values of the sort may have the head.

@@ -6,5 +6,5 @@ mod head;
 mod remaining;
 mod sequence;
 
-pub use head::{SortHead, is_head};
+pub use head::{SortHead, is_head, is_named};
 pub use sequence::{HeadSequence, heads};

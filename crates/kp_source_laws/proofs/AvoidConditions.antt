@@ -10,15 +10,14 @@ use Rattle.kp_kore.specs.Signature.{KoreSignature, is_integer_sort, is_boolean_s
 use Rattle.kp_kore.specs.Value.{whole, truth, token}
 use Rattle.kp_kore.specs.Instance.{is_named, literal_value}
 use Rattle.kp_symbolic.specs.Terms.{SymbolicTerm, Replaced, replacement_for}
-use Rattle.kp_symbolic.specs.Formulas.{Formula}
-use Rattle.kp_symbolic.specs.States.{Literal}
 use Rattle.kp_symbolic.specs.Alike.{literals_same}
 use Rattle.kp_symbolic.specs.Folding.{term_for, folded, all_folded}
-use Rattle.kp_symbolic.specs.Opening.{fixed, literal_fact, HeadQuestion, head_question, opened_test, quotation, opened_ceil, opened_leaf, opened_predicate}
+use Rattle.kp_symbolic.specs.Opening.{fixed, literal_fact, HeadQuestion, head_question, quotation, opened_ceil, opened_leaf, opened_predicate}
 use Rattle.kp_symbolic.specs.Clauses.{distributed, is_too_large, quoted_literal, clauses_of_conjunct, literals_of_conjunct, clauses_of_conjuncts}
 use Rattle.kp_symbolic.proofs.Distribution.{all_both, kept_are}
 use Rattle.kp_symbolic.proofs.Facts.{AllFacts, clauses_have}
 use Rattle.kp_symbolic.proofs.Opened.{IsClosed}
+use Rattle.kp_symbolic.proofs.Leaf.{asked_formula}
 use Rattle.kp_symbolic_laws.proofs.OpenedGood.{LeafHas, opened_has, by_size}
 use Rattle.kp_step.specs.Conditions.{condition_clauses}
 use Rattle.kp_source_laws.specs.Symbols.{AvoidsValue, AvoidsTerm, AvoidTerms, AvoidsPattern, AvoidPatterns, PutAvoids, AvoidsAtom, ClausesAvoid}
@@ -100,10 +99,6 @@ put_kept f test (r ∷ rs) k = by (test r) (put_kept f test rs k.1)
 
 quotation_avoids : (f : Text) (rs : List Replaced) (p : KorePattern) → PutAvoids f rs → AvoidsAtom f (quotation rs p)
 quotation_avoids f rs p k = put_kept f (λ r. is_named r.name (free_variables p)) rs k
-
-abbrev asked_formula : KoreSignature → List Replaced → Bool → KorePattern → Option HeadQuestion → Formula Literal
-asked_formula g rs b p (Some q) = opened_test g b q.test (literal_fact b (quotation rs p)) (folded g rs q.subject)
-asked_formula g rs b p None = literal_fact b (quotation rs p)
 
 question_avoids : (g : KoreSignature) (f : Text) (rs : List Replaced) (b : Bool) (p : KorePattern) (o : Option HeadQuestion) → PutAvoids f rs → AllFacts (Avoids f) (asked_formula g rs b p o)
 question_avoids g f rs b p (Some q) k = test_avoids g f b q.test (literal_fact b (quotation rs p)) (folded g rs q.subject) (quotation_avoids f rs p k)

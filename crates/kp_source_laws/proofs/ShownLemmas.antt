@@ -1,15 +1,15 @@
 -- What is shown where a step leaves something undecided is sourced in the state and the rules; in nothing, nothing is.
-use Rattle.std.proofs.Common.{◌≡◌, refl, sym, ap, subst, ◌∙◌, inl, inr, Bool, true, false, not, ℕ, List, [], ◌∷◌, ◌++◌, map, Option, Some, None}
-use Rattle.std.specs.Prelude.{if◌then◌else◌}
-use Rattle.std.specs.List.{AllByRecursion, Contains, filter}
+use Rattle.std.proofs.Common.{◌≡◌, sym, subst, ◌∙◌, inl, inr, not, ℕ, List, [], ◌∷◌, ◌++◌, Option, Some, None}
+use Rattle.std.specs.List.{AllByRecursion, Contains}
 use Rattle.kp_kore.specs.Parts.{SortedName}
 use Rattle.kp_kore.specs.Signature.{KoreSignature}
 use Rattle.kp_kore.specs.Rules.{RuleBody, RewriteRule}
 use Rattle.kp_kore.specs.Theory.{Theory}
 use Rattle.kp_kore.proofs.TurnLemmas.{of_member, each_member}
 use Rattle.kp_symbolic.specs.States.{Literal, SymbolicState}
-use Rattle.kp_symbolic.specs.Plain.{form_of, read_clause, read_from, read_clauses, is_plain_clause, literals_of, rough_clauses}
+use Rattle.kp_symbolic.specs.Plain.{read_clauses, is_plain_clause, literals_of, rough_clauses}
 use Rattle.kp_symbolic.specs.Verdicts.{Weighed}
+use Rattle.kp_symbolic.proofs.Exact.{kept_true, all_read}
 use Rattle.kp_case_laws.specs.Parts.{whole, with_clauses}
 use Rattle.kp_step.proofs.ComesLemmas.{comes_by_more}
 use Rattle.kp_unify.specs.Views.{part_view}
@@ -31,29 +31,8 @@ some_inside e = cc
 
 -- ---- clauses that aren't plain
 
-mapped : (g : KoreSignature) (c : List Literal) → literals_of (map (λ l. record { literal = l; form = form_of g l }) c) ≡ c
-mapped g [] = refl
-mapped g (l ∷ c) = ap (λ k. l ∷ k) (mapped g c)
-
-read_keeps : (g : KoreSignature) (s : SymbolicState) (others : List (List Literal)) (c : List Literal) → literals_of (read_clause g s others c) ≡ c
-read_keeps g s others [] = refl
-read_keeps g s others (l ∷ []) = refl
-read_keeps g s others (l ∷ m ∷ c) = ap (λ k. l ∷ m ∷ k) (mapped g c)
-
-all_read : (g : KoreSignature) (s : SymbolicState) (before after : List (List Literal)) → map literals_of (read_from g s before after) ≡ after
-all_read g s before [] = refl
-all_read g s before (c ∷ after) = ap (λ k. k ∷ map literals_of (read_from g s (before ++ c ∷ []) after)) (read_keeps g s (before ++ after) c) ∙ ap (λ cs. c ∷ cs) (all_read g s (before ++ c ∷ []) after)
-
-kept_of : {X : Type 0} (P : List Literal → Type 0) (of : X → List Literal) (test : X → Bool) (cs : List X) → AllByRecursion P (map of cs) → AllByRecursion P (map of (filter test cs))
-kept_of P of test [] h = tt
-kept_of P of test (c ∷ cs) h = by_test (test c) (kept_of P of test cs h.1)
-  where
-    by_test : (b : Bool) → AllByRecursion P (map of (filter test cs)) → AllByRecursion P (map of (if b then c ∷ filter test cs else filter test cs))
-    by_test true rest = (h.0, rest)
-    by_test false rest = rest
-
 rough_have : (g : KoreSignature) (P : List Literal → Type 0) (s : SymbolicState) → AllByRecursion P s.clauses → AllByRecursion P (rough_clauses g s)
-rough_have g P s h = kept_of P literals_of (λ c. not (is_plain_clause c)) (read_clauses g s) (subst (AllByRecursion P) (sym (all_read g s [] s.clauses)) h)
+rough_have g P s h = kept_true P literals_of (λ c. not (is_plain_clause c)) (read_clauses g s) (subst (AllByRecursion P) (sym (all_read g s [] s.clauses)) h)
 
 -- ---- parts
 

@@ -11,7 +11,7 @@ use Rattle.kp_symbolic.specs.States.{same, Literal, SymbolicState}
 use Rattle.kp_symbolic.specs.WellFormed.{AreAtHand}
 use Rattle.kp_symbolic.specs.Solving.{Equation, Solvable, first_solvable, solved_at, solved_clauses, Solving, finished, goes_on, negated}
 use Rattle.kp_symbolic.proofs.Distribution.{all_both, all_first, all_second}
-use Rattle.kp_symbolic_laws.proofs.Found.{at_place, found_in}
+use Rattle.kp_symbolic.proofs.Found.{at_place, found_in}
 use Rattle.kp_rules.specs.Skeletons.{Form}
 use Rattle.kp_case_laws.specs.Parts.{StatePart, whole, with_clauses}
 use Rattle.kp_case_laws.specs.Narrowings.{equates, put_clause, part_with_term}

@@ -85,7 +85,7 @@ met_comes t used s place k q m next apart w f met =
     fires m.part (foreign_rule f.left) m.equations (narrowed (whole s) m.part (foreign_rule f.left) (skeleton_view k) itself (f.rule, inr refl, f.body) f.stands (subst (λ p. IsNarrowedFrom g (skeleton_view k) p m.part) w.is met.here.narrowed)) (f.rule, inr refl, f.body)
     (clauses_of_foreign g f.left (skeleton_view k) m f.stands met.cases.is_met met.equations)
 
-instance_there : (g : KoreSignature) (p : StatePart) → HasInstance g (whole p.state) → HasInstance g p
+pub instance_there : (g : KoreSignature) (p : StatePart) → HasInstance g (whole p.state) → HasInstance g p
 instance_there g p i = record { valuation = i.valuation; configuration = i.configuration; sorts = i.sorts; met = i.met }
 
 pub tells_met : (t : Theory) (used : List Text) (s : SymbolicState) (place : ℕ) (k : Skeleton) (q : NumberedPart) (m : MetPart) (next : ℕ) (apart : List NumberedPart) (a : answers.PartAnswer) → IsWholeReady t.signature used s q → IsForeignAt t place k → IsMeeting t.signature used (skeleton_view k) q.part m next apart →

@@ -12,11 +12,11 @@ use Rattle.kp_kore.specs.Syntax.{Text, KoreSort, KoreSorts, KorePattern, KorePat
 use Rattle.kp_kore.specs.Attributes.{sorts_equal}
 use Rattle.kp_kore.specs.Parts.{SortedName, is_term, are_terms, free_variables, all_free_variables, pattern_list}
 use Rattle.kp_kore.specs.Signature.{KoreSignature, SymbolMeaning, injection, construction, interpretation, foreign, meaning_of}
-use Rattle.kp_signature.proofs.Same.{sorts_equal-Decides}
 use Rattle.kp_kore.specs.Foreign.{none_within, has_foreign_head, is_foreign_meaning, has_interpreted_head, is_interpretation}
 use Rattle.kp_kore.specs.Rules.{Rewrite}
 use Rattle.kp_kore.proofs.InstanceLemmas.{first_true, second_true}
 use Rattle.kp_kore.proofs.TurnLemmas.{of_member}
+use Rattle.kp_kore.proofs.SameLemmas.{sorts_equal-Decides}
 use Rattle.kp_signature.specs.Places.{sort_in_scope}
 use Rattle.kp_signature.proofs.SortedInstances.{none_among, none_in_first, none_in_others}
 use Rattle.kp_signature.proofs.VariableSorts.{HasItsSort}

@@ -1,14 +1,11 @@
 -- What is told of foreign rules, as the code asks for it.
-use Rattle.std.proofs.Common.{◌≡◌, refl, sym, ap, subst, ◌∙◌, ℕ, ◌≤◌, List, [], ◌∷◌, length, Option, Some, None, Result, Ok, Err, IfOk}
-use Rattle.std.specs.Prelude.{MatchOption}
+use Rattle.std.proofs.Common.{◌≡◌, refl, sym, ap, subst, ◌∙◌, ℕ, List, [], ◌∷◌, Result, Ok, Err, IfOk}
 use Rattle.kp_kore.specs.Syntax.{Text}
 use Rattle.kp_kore.specs.Signature.{KoreSignature}
 use Rattle.kp_kore.specs.Theory.{Theory}
 use Rattle.kp_symbolic.specs.States.{SymbolicState}
 use Rattle.kp_rules.specs.Skeletons.{Form, skeleton_view}
 use Rattle.kp_rules.specs.declared.skeleton.Skeleton.{Skeleton}
-use Rattle.kp_rule_sets.specs.RuleSets.{RunsAs}
-use Rattle.kp_rule_sets.specs.declared.rule_set.RuleSet.{RuleSet}
 use Rattle.kp_case_laws.specs.Parts.{StatePart, with_clauses, IsPartBelow, IsSortedPart}
 use Rattle.kp_case_laws.specs.Cases.{MetPart}
 use Rattle.kp_unify.specs.Narrowed.{NumberedPart}
@@ -21,12 +18,8 @@ use Rattle.kp_step.specs.Answers.{IsMetAnswer, IsForeignAnswer, TellsWhereMet, T
 use Rattle.kp_step.specs.RightSteps.{IsRightStep}
 use Rattle.kp_step.specs.declared.part_answers.PartAnswer as answers
 use Rattle.kp_step.specs.declared.part_answers.PartAnswer.TheVariants as answer
-use Rattle.kp_step.specs.declared.foreign.UndecidedRule.{UndecidedRule}
-use Rattle.kp_step.specs.declared.outcome.StepOutcome.{StepOutcome}
 use Rattle.kp_step.proofs.AskedLemmas.{met_sorted, tells_met, tells_apart}
 use Rattle.kp_step.proofs.MeetLemmas.{clauses_meet, met_answer}
-use Rattle.kp_step.proofs.FirstLemmas.{Asking, asks_all}
-use Rattle.kp_step.proofs.OrderLemmas.{InTurn}
 
 -- what is answered of the part that is met
 pub answered_met : (g : KoreSignature) (used : List Text) (s : SymbolicState) (left : Form) (q : NumberedPart) (m : MetPart) (next : ℕ) (apart : List NumberedPart) (r : StatePart) (a : answers.PartAnswer) → IsWholeReady g used s q → IsMeeting g used left q.part m next apart → r ≡ with_clauses m.part m.equations →
@@ -54,11 +47,3 @@ tells_answer t used s place k q m next apart g (Err x) e w f met i = tt
 
 pub tells_all_apart : (t : Theory) (used : List Text) (s : SymbolicState) (place : ℕ) (k : Skeleton) (q : NumberedPart) (g : KoreSignature) → g ≡ t.signature → IsWholeReady g used s q → IsForeignAt t place k → IsAllApart g (skeleton_view k) q.part → TellsForeign t s place answer.Nothing
 tells_all_apart t used s place k q g e w f apart = tells_apart t used s place k q (subst (λ h. IsWholeReady h used s q) e w) f (subst (λ h. IsAllApart h (skeleton_view k) q.part) e apart)
-
--- ---- in the end
-
--- what is told in the end: the first that is left open, or that none might rewrite an instance
-pub asks_known : (t : Theory) (used : List Text) (s : SymbolicState) (rules : RuleSet) (places : List ℕ) (i : ℕ) (opened : List UndecidedRule) (o : Option StepOutcome) → RunsAs t rules → InTurn rules places → length places ≤ i → Asking t s places i opened →
-    MatchOption o (opened ≡ []) (IsRightStep t used s) → TellsKnown t used s o
-asks_known t used s rules places i opened None runs turn past a none = asks_all t s rules places i opened runs turn past none a
-asks_known t used s rules places i opened (Some x) runs turn past a right = right

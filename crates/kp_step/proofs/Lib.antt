@@ -39,7 +39,6 @@ pub mod PartLemmas
 pub mod PlaceLemmas
 pub mod PlacedLemmas
 pub mod PlainLemmas
-pub mod QuestionLemmas
 pub mod ReadyLemmas
 pub mod RemainderLemmas
 pub mod RightSideLemmas

@@ -4,11 +4,12 @@ use Rattle.std.specs.Prelude.{is_some, if◌then◌else◌}
 use Rattle.std.specs.List.{AllByRecursion, AllZip}
 use Rattle.std.specs.Str.{bytes_eq}
 use Rattle.std.proofs.Math.Seq.{take-suc, take_all}
-use Rattle.std.proofs.lemmas.List.{drop_more, drop_all, map-append, take-append-drop}
+use Rattle.std.proofs.lemmas.List.{map-append, take-append-drop}
 use Rattle.kp_kore.specs.Syntax.{Text}
 use Rattle.kp_kore.specs.Parts.{SortedName}
 use Rattle.kp_kore.specs.Instance.{is_named}
 use Rattle.kp_kore.specs.Steps.{AnyByRecursion}
+use Rattle.kp_kore.proofs.ListLemmas.{one_left, none_left}
 use Rattle.kp_symbolic.specs.Terms.{Replaced, replacement_for}
 
 pub taken : {A : Type 0} (xs : List A) (i : ℕ) (x : A) → i < length xs → x ≡ get_or xs i x → take (i + 1) xs ≡ take i xs ++ x ∷ []
@@ -16,31 +17,25 @@ taken xs i x h e =
     let one : i + 1 ≡ suc i = omega arith in
     ap (λ k. take k xs) one ∙ take-suc xs i x h ∙ ap (λ y. take i xs ++ y ∷ []) (sym e)
 
-pub waiting : {A : Type 0} (xs : List A) (i : ℕ) (x : A) → i < length xs → x ≡ get_or xs i x → drop i xs ≡ x ∷ drop (i + 1) xs
-waiting xs i x h e = drop_more xs i x h ∙ ap (λ y. y ∷ drop (i + 1) xs) (sym e)
-
 -- the list around the element
 pub split_there : {A : Type 0} (xs : List A) (i : ℕ) (x : A) → i < length xs → x ≡ get_or xs i x → xs ≡ take i xs ++ x ∷ drop (i + 1) xs
-split_there xs i x h e = sym (take-append-drop i xs) ∙ ap (λ ys. take i xs ++ ys) (waiting xs i x h e)
+split_there xs i x h e = sym (take-append-drop i xs) ∙ ap (λ ys. take i xs ++ ys) (one_left xs i x h e)
 
 pub all_taken : {A : Type 0} (xs : List A) (i : ℕ) → length xs ≤ i → take i xs ≡ xs
 all_taken xs i past = take_all i xs past
-
-pub none_waiting : {A : Type 0} (xs : List A) (i : ℕ) → length xs ≤ i → drop i xs ≡ []
-none_waiting xs i past = drop_all i xs past
 
 -- the same of what is seen of the elements
 pub taken_views : {A X : Type 0} (v : A → X) (xs : List A) (i : ℕ) (x : A) → i < length xs → x ≡ get_or xs i x → map v (take (i + 1) xs) ≡ map v (take i xs) ++ v x ∷ []
 taken_views v xs i x h e = ap (map v) (taken xs i x h e) ∙ map-append v (take i xs) (x ∷ [])
 
 pub waiting_views : {A X : Type 0} (v : A → X) (xs : List A) (i : ℕ) (x : A) → i < length xs → x ≡ get_or xs i x → map v (drop i xs) ≡ v x ∷ map v (drop (i + 1) xs)
-waiting_views v xs i x h e = ap (map v) (waiting xs i x h e)
+waiting_views v xs i x h e = ap (map v) (one_left xs i x h e)
 
 pub all_taken_views : {A X : Type 0} (v : A → X) (xs : List A) (i : ℕ) → length xs ≤ i → map v (take i xs) ≡ map v xs
 all_taken_views v xs i past = ap (map v) (all_taken xs i past)
 
 pub none_waiting_views : {A X : Type 0} (v : A → X) (xs : List A) (i : ℕ) → length xs ≤ i → map v (drop i xs) ≡ []
-none_waiting_views v xs i past = ap (map v) (none_waiting xs i past)
+none_waiting_views v xs i past = ap (map v) (none_left xs i past)
 
 -- ---- what holds of each, or of one
 

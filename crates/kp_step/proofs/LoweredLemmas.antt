@@ -8,6 +8,7 @@ use Rattle.kp_kore.specs.Value.{Value, whole, truth, token, constructed, no_valu
 use Rattle.kp_kore.specs.Instance.{Valuation, GivesSorts}
 use Rattle.kp_kore.specs.Theory.{Theory}
 use Rattle.kp_kore.proofs.TurnLemmas.{of_member, each_member}
+use Rattle.kp_kore.proofs.ListLemmas.{one_left, none_left}
 use Rattle.kp_signature.proofs.SortLemmas.{has_sort_above}
 use Rattle.kp_symbolic.proofs.HeadLemmas.{head_from_sort}
 use Rattle.kp_symbolic.proofs.HeadQuestions.{sort_from_head}
@@ -16,7 +17,6 @@ use Rattle.kp_rules.specs.declared.skeleton.Skeleton.{Skeleton}
 use Rattle.kp_case_laws.specs.Courses.{IsMeet, form_variables, all_form_variables}
 use Rattle.kp_step.specs.OneSort.{HasEachOf, IsLowest, IsLowered, AreLowered}
 use Rattle.kp_step.specs.Rules.{IsForeignAt}
-use Rattle.kp_step.proofs.LoopLemmas.{waiting, none_waiting}
 use Rattle.kp_step.proofs.OneSortLemmas.{AllOf, front_of}
 use Rattle.kp_step.proofs.SharedLemmas.{have_sorts}
 
@@ -58,7 +58,7 @@ lowering_goes_on g name sort low next ks i k h e one before u =
 
 pub lowering_ends : (g : KoreSignature) (name : Text) (sort low : KoreSort) (ks : List Skeleton) (i : ℕ) → length ks ≤ i → IsLowering g name sort ks i low → IsLowest g name sort (all_form_variables (forms_of (map skeleton_view ks))) low
 lowering_ends g name sort low ks i past before u =
-    let none : AllOf (λ y. y.name ≡ name → HasSort g y.sort u) (drop i ks) = subst (AllOf (λ y. y.name ≡ name → HasSort g y.sort u)) (sym (none_waiting ks i past)) tt in
+    let none : AllOf (λ y. y.name ≡ name → HasSort g y.sort u) (drop i ks) = subst (AllOf (λ y. y.name ≡ name → HasSort g y.sort u)) (sym (none_left ks i past)) tt in
     ((λ h. (before u).0 (h, none)), (λ h. ((before u).1 h).0))
 
 -- ---- forms
@@ -110,7 +110,7 @@ pub made_goes_on : (g : KoreSignature) (xs : List SortedName) (ks : List Skeleto
 made_goes_on g xs ks i k low made h e one before rest a =
     subst (λ fs. AreLowered g xs (forms_of (map skeleton_view ks)) (forms_of fs)) (sym (seen_with made low rest))
     (before (skeleton_view low ∷ rest)
-    (subst (λ js. AreLowered g xs (forms_of (map skeleton_view js)) (forms_of (skeleton_view low ∷ rest))) (sym (waiting ks i k h e))
+    (subst (λ js. AreLowered g xs (forms_of (map skeleton_view js)) (forms_of (skeleton_view low ∷ rest))) (sym (one_left ks i k h e))
     (first_lowered g xs (skeleton_view k) (skeleton_view low) (forms_of (map skeleton_view (drop (i + 1) ks))) (forms_of rest) one a)))
 
 without_more : (fs : List Form) → fs ++ [] ≡ fs
@@ -120,7 +120,7 @@ without_more (f ∷ fs) = ap (λ gs. f ∷ gs) (without_more fs)
 pub made_ends : (g : KoreSignature) (xs : List SortedName) (ks : List Skeleton) (i : ℕ) (made : List Skeleton) → length ks ≤ i → AreMade g xs ks i made → AreLowered g xs (forms_of (map skeleton_view ks)) (forms_of (map skeleton_view made))
 made_ends g xs ks i made past before =
     subst (λ fs. AreLowered g xs (forms_of (map skeleton_view ks)) (forms_of fs)) (without_more (map skeleton_view made))
-    (before [] (subst (λ js. AreLowered g xs (forms_of (map skeleton_view js)) no_forms) (sym (none_waiting ks i past)) (none_lowered g xs)))
+    (before [] (subst (λ js. AreLowered g xs (forms_of (map skeleton_view js)) no_forms) (sym (none_left ks i past)) (none_lowered g xs)))
 
 -- ---- foreign rules
 

@@ -10,7 +10,6 @@ use Rattle.kp_kore.specs.Attributes.{sorts_equal}
 use Rattle.kp_kore.specs.Parts.{SortedName, free_variables, is_term}
 use Rattle.kp_kore.specs.Signature.{KoreSignature, IsBelow, itself, is_below}
 use Rattle.kp_kore.specs.Sorting.{sort_of_term}
-use Rattle.kp_signature.proofs.Same.{sorts_equal-Decides}
 use Rattle.kp_signature.proofs.Below.{is_below-Decides}
 use Rattle.kp_signature.specs.Places.{own_sort}
 use Rattle.kp_kore.specs.Instance.{is_named}
@@ -18,6 +17,7 @@ use Rattle.kp_kore.specs.Rules.{Rewrite}
 use Rattle.kp_kore.proofs.ListLemmas.{all_map}
 use Rattle.kp_kore.proofs.NameLemmas.{true_is_false}
 use Rattle.kp_kore.proofs.TurnLemmas.{of_member, each_member}
+use Rattle.kp_kore.proofs.SameLemmas.{sorts_equal-Decides}
 use Rattle.kp_symbolic.specs.Terms.{SymbolicTerm, unknown, term_variables, Replaced, replacement_for}
 use Rattle.kp_symbolic.specs.Folding.{folded, term_for}
 use Rattle.kp_symbolic.specs.States.{Literal, variables_for, atom_variables}

@@ -3,13 +3,13 @@
 use Rattle.std.proofs.Common.{◌≡◌, refl, Bool, true, false, ◌&&◌, List, [], ◌∷◌, ◌↔◌}
 use Rattle.std.specs.Prelude.{if◌then◌else◌}
 use Rattle.std.specs.Bool.{beq}
-use Rattle.std.specs.List.{AllByRecursion, Contains, flat_map}
+use Rattle.std.specs.List.{AllByRecursion, Contains}
 use Rattle.kp_kore.specs.Syntax.{KoreSort, KorePatterns, conjunction}
 use Rattle.kp_kore.specs.Parts.{SortedName, free_variables, all_free_variables}
 use Rattle.kp_kore.specs.Signature.{KoreSignature}
 use Rattle.kp_kore.specs.Instance.{Valuation, GivesSorts, AllTrueUnder, is_predicate, are_predicates}
-use Rattle.kp_symbolic.specs.Terms.{unknown, term_variables, replacement_for}
-use Rattle.kp_symbolic.specs.States.{Atom, same, has_head, quoted, atom_variables, variables_for, Literal, AreTrue, SymbolicState}
+use Rattle.kp_symbolic.specs.Terms.{unknown, term_variables}
+use Rattle.kp_symbolic.specs.States.{Atom, same, has_head, quoted, atom_variables, Literal, AreTrue, SymbolicState}
 use Rattle.kp_symbolic.specs.WellFormed.{IsWellSortedAtom, AreAtHand, IsGivenAtom, AreGivenLiterals}
 use Rattle.kp_symbolic.specs.Opening.{literal_fact}
 use Rattle.kp_symbolic.specs.Clauses.{distributed, is_too_large, opened_atom, opened_literals, denied_clauses, denied}
@@ -25,7 +25,7 @@ use Rattle.kp_symbolic_laws.specs.Runs.{HasRoomClause, IsPredicateAtom, IsSoundP
 use Rattle.kp_symbolic_laws.specs.Safe.{IsFormed, IsSoundQuote}
 use Rattle.kp_symbolic_laws.proofs.FormedFacts.{same_formed, test_formed}
 use Rattle.kp_symbolic_laws.proofs.Keeping.{test_good}
-use Rattle.kp_symbolic_laws.proofs.OpenedGood.{by_size}
+use Rattle.kp_symbolic_laws.proofs.OpenedGood.{by_size, flat_itself}
 use Rattle.kp_symbolic_laws.proofs.SoundWritten.{IsReady, clause_sound}
 use Rattle.kp_symbolic_laws.proofs.Step.{at_hand_given}
 use Rattle.kp_symbolic_laws.proofs.WrittenForms.{clause_predicate}
@@ -74,15 +74,11 @@ written_at_hand g s [] i k = tt
 written_at_hand g s (c ∷ cs) i k =
     all_both (At s.variables) (free_variables (written_clause g s.sort c)) (all_free_variables (written_clauses g s.sort cs)) (written_of_these g s c i.0 (predicate_atoms g c k.0)) (written_at_hand g s cs i.1 k.1)
 
-stands_itself : (hand xs : List SortedName) → AreAtHand xs hand → AreAtHand (flat_map (λ x. variables_for x (replacement_for [] x.name)) xs) hand
-stands_itself hand [] a = tt
-stands_itself hand (x ∷ xs) a = (a.0, stands_itself hand xs a.1)
-
 abbrev denying : KoreSort → KorePatterns → Literal
 denying sort ps = record { holds = false; atom = quoted (conjunction sort ps) [] }
 
 denying_good : (g : KoreSignature) (hand : List SortedName) (sort : KoreSort) (ps : KorePatterns) → AllByRecursion (At hand) (all_free_variables ps) → Good g hand (denying sort ps)
-denying_good g hand sort ps a = (placed_as_they_are g (all_free_variables ps), stands_itself hand (all_free_variables ps) a)
+denying_good g hand sort ps a = (placed_as_they_are g (all_free_variables ps), flat_itself hand (all_free_variables ps) a)
 
 -- the opposite has the sorts of its places
 pub negated_sorted : (g : KoreSignature) (s : SymbolicState) (cs : List (List Literal)) → AreGood g s.variables cs → AreSound g cs → AreGood g s.variables (negated g s.sort cs)

@@ -66,15 +66,6 @@ or_same true d h = refl
 or_same false true h = h refl
 or_same false false h = refl
 
--- one that is new isn't bound
-pub unbound_at : (bs : List Replaced) (ys : List SortedName) (x : Text) → AllByRecursion (λ (y : SortedName). replacement_for bs y.name ≡ None) ys → is_named x ys ≡ true → replacement_for bs x ≡ None
-unbound_at bs [] x h e = absurd (true_is_false (sym e))
-unbound_at bs (y ∷ ys) x h e = by (bytes_eq y.name x) refl (unbound_at bs ys x h.1) e
-  where
-    by : (b : Bool) → bytes_eq y.name x ≡ b → (is_named x ys ≡ true → replacement_for bs x ≡ None) → b || is_named x ys ≡ true → replacement_for bs x ≡ None
-    by true m rest f = subst (λ n. replacement_for bs n ≡ None) ((bytes_eq-Decides y.name x).0 m) h.0
-    by false m rest f = rest f
-
 -- ---- sorts and lists with one more
 
 sorts_with : (xs ys : List SortedName) (x y : SortedName) → sorts_of_names xs ≡ sorts_of_names ys → x.sort ≡ y.sort → sorts_of_names (xs ++ x ∷ []) ≡ sorts_of_names (ys ++ y ∷ [])

@@ -22,8 +22,8 @@ use Rattle.kp_case_laws.specs.Narrowings.{sorts_of_names}
 use Rattle.kp_case_laws.specs.Nexts.{fresh_bindings, AreBoundOrNew, all_bindings, IsNextState, IsInstantiated}
 use Rattle.kp_case_laws.proofs.CourseLemmas.{found_before, found_behind}
 use Rattle.kp_case_laws.proofs.AtHandLemmas.{sorts_of_hand}
+use Rattle.kp_case_laws.proofs.NextLemmas.{new_is_unbound}
 use Rattle.kp_step.specs.RightSides.{moved_state}
-use Rattle.kp_step.proofs.NewLemmas.{unbound_at}
 
 -- ---- terms that stand for variables have values of their sorts
 
@@ -53,7 +53,7 @@ fresh_given g w (y ∷ ys) (z ∷ zs) x e n h = by (bytes_eq y.name x.name) (λ 
 given_one : (g : KoreSignature) (w : Valuation) (p : StatePart) (bs : List Replaced) (ys new : List SortedName) (x : SortedName) → AllByRecursion (λ b. AreAtHand (term_variables b.term) p.state.variables) bs → AllByRecursion (λ y. replacement_for bs y.name ≡ None) ys →
     sorts_of_names new ≡ sorts_of_names ys → GivesSorts g w p.state.variables → GivesSorts g w new → ((t : SymbolicTerm) × (replacement_for bs x.name ≡ Some t)) ⊎ (is_named x.name ys ≡ true) → GivesSorts g w (variables_for x (replacement_for (all_bindings bs ys new) x.name))
 given_one g w p bs ys new x hand unbound e h k (inl (t, f)) = subst (λ o. GivesSorts g w (variables_for x o)) (sym (found_before bs (fresh_bindings ys new) x.name t f)) (sorts_of_hand g w (term_variables t) p.state.variables (found_hand p.state.variables bs x.name t hand f) h)
-given_one g w p bs ys new x hand unbound e h k (inr n) = subst (λ o. GivesSorts g w (variables_for x o)) (sym (found_behind bs (fresh_bindings ys new) x.name (unbound_at bs ys x.name unbound n))) (fresh_given g w ys new x e n k)
+given_one g w p bs ys new x hand unbound e h k (inr n) = subst (λ o. GivesSorts g w (variables_for x o)) (sym (found_behind bs (fresh_bindings ys new) x.name (new_is_unbound bs ys x.name unbound n))) (fresh_given g w ys new x e n k)
 
 all_given : (g : KoreSignature) (w : Valuation) (p : StatePart) (bs : List Replaced) (ys new xs : List SortedName) → AllByRecursion (λ b. AreAtHand (term_variables b.term) p.state.variables) bs → AllByRecursion (λ y. replacement_for bs y.name ≡ None) ys →
     sorts_of_names new ≡ sorts_of_names ys → GivesSorts g w p.state.variables → GivesSorts g w new → AreBoundOrNew bs ys xs → AreGiven g (all_bindings bs ys new) w xs

@@ -7,13 +7,13 @@ use Rattle.kp_kore.specs.Parts.{SortedName}
 use Rattle.kp_kore.specs.Instance.{is_named}
 use Rattle.kp_kore.proofs.NameLemmas.{true_is_false}
 use Rattle.kp_kore.proofs.TurnLemmas.{of_member, each_member}
+use Rattle.kp_kore.proofs.ListLemmas.{one_left}
 use Rattle.kp_symbolic.proofs.Distribution.{all_both, all_first, all_second}
 use Rattle.kp_symbolic_laws.specs.Runs.{HasOneSortEach}
 use Rattle.kp_rules.specs.Skeletons.{skeleton_view, forms_of}
 use Rattle.kp_rules.specs.declared.skeleton.Skeleton.{Skeleton}
 use Rattle.kp_case_laws.specs.Courses.{form_variables, all_form_variables}
 use Rattle.kp_step.specs.OneSort.{HasOnly, HaveOnlySortsOf}
-use Rattle.kp_step.proofs.LoopLemmas.{waiting}
 use Rattle.kp_step.proofs.NewLemmas.{named_in_both}
 
 pub one_sort_each : (xs : List SortedName) → HaveOnlySortsOf xs xs ↔ HasOneSortEach xs
@@ -32,7 +32,7 @@ pub front_of : (P : SortedName → Type 0) (ks : List Skeleton) (i : ℕ) (k : S
 front_of P ks i k h e =
     let xs = form_variables (skeleton_view k) in
     let ys = all_form_variables (forms_of (map skeleton_view (drop (i + 1) ks))) in
-    subst (λ js. AllOf P js ↔ (AllByRecursion P xs × AllOf P (drop (i + 1) ks))) (sym (waiting ks i k h e))
+    subst (λ js. AllOf P js ↔ (AllByRecursion P xs × AllOf P (drop (i + 1) ks))) (sym (one_left ks i k h e))
     ((λ a. (all_first P xs ys a, all_second P xs ys a)), (λ a. all_both P xs ys a.0 a.1))
 
 pub part_more : (P : SortedName → Type 0) (ks : List Skeleton) (i : ℕ) (k : Skeleton) → i < length ks → k ≡ get_or ks i k → AllByRecursion P (form_variables (skeleton_view k)) → AllOf P (drop i ks) ↔ AllOf P ks → AllOf P (drop (i + 1) ks) ↔ AllOf P ks
@@ -77,5 +77,5 @@ named_behind x xs ys n = named_in_both x xs ys ∙ ap (λ b. is_named x xs || b)
 pub named_more : (name : Text) (ks : List Skeleton) (i : ℕ) (k : Skeleton) → i < length ks → k ≡ get_or ks i k → (is_named name (all_form_variables (forms_of (map skeleton_view (drop i ks)))) ≡ true → is_named name (all_form_variables (forms_of (map skeleton_view ks))) ≡ true) →
     is_named name (all_form_variables (forms_of (map skeleton_view (drop (i + 1) ks)))) ≡ true → is_named name (all_form_variables (forms_of (map skeleton_view ks))) ≡ true
 named_more name ks i k h e f rest =
-    f (subst (λ js. is_named name (all_form_variables (forms_of (map skeleton_view js))) ≡ true) (sym (waiting ks i k h e))
+    f (subst (λ js. is_named name (all_form_variables (forms_of (map skeleton_view js))) ≡ true) (sym (one_left ks i k h e))
     (named_behind name (form_variables (skeleton_view k)) (all_form_variables (forms_of (map skeleton_view (drop (i + 1) ks)))) rest))

@@ -1,12 +1,12 @@
 -- Each literal that verified predicates are opened to, with well-sorted terms in the place of their variables, has the sorts of
 -- its places, its variables are at hand, its terms are in normal form, and it is written right where there is room for new names.
-use Rattle.std.proofs.Common.{◌≡◌, refl, sym, ◌∙◌, ap, subst, ℕ, ◌+◌, Bool, true, false, not, ◌&&◌, ◌||◌, List, [], ◌∷◌, ◌++◌, Option, Some, None}
-use Rattle.std.specs.Prelude.{if◌then◌else◌, cond}
+use Rattle.std.proofs.Common.{◌≡◌, refl, sym, ap, subst, ℕ, ◌+◌, Bool, true, false, not, ◌&&◌, ◌||◌, List, [], ◌∷◌, ◌++◌, Option, Some, None}
+use Rattle.std.specs.Prelude.{cond}
 use Rattle.std.specs.List.{AllByRecursion, Contains, filter, flat_map}
 use Rattle.std.specs.Str.{bytes_eq}
 use Rattle.std.proofs.lemmas.List.{append_assoc}
 use Rattle.std.proofs.lemmas.Slice.Eq.{bytes_eq-Decides}
-use Rattle.kp_kore.specs.Syntax.{Text, KoreSort, KorePattern, KorePatterns, variable, application, literal, negation, conjunction, exists, ceil, equals, membership, no_patterns, next_pattern}
+use Rattle.kp_kore.specs.Syntax.{KoreSort, KorePattern, KorePatterns, variable, application, literal, negation, conjunction, exists, ceil, equals, membership, no_patterns, next_pattern}
 use Rattle.kp_kore.specs.Parts.{SortedName, is_term, free_variables, all_free_variables}
 use Rattle.kp_kore.specs.Signature.{KoreSignature}
 use Rattle.kp_kore.specs.Instance.{is_named, is_predicate, are_predicates, is_conjoined_pair}
@@ -27,16 +27,17 @@ use Rattle.kp_symbolic.proofs.Distribution.{all_both, all_first, all_second, kep
 use Rattle.kp_symbolic.proofs.Opened.{IsClosed}
 use Rattle.kp_symbolic.proofs.Folded.{folded_variables}
 use Rattle.kp_symbolic.proofs.SortedFolding.{folded_sorted}
-use Rattle.kp_symbolic.proofs.Read.{Stands, StandAll, StandBoth, equals_stand, membership_stands, negation_stands, conjunction_stands, disjunction_stands, implication_stands, equivalence_stands, ceil_stands, floor_stands, first_stands, others_stand}
+use Rattle.kp_symbolic.proofs.Read.{Stands, StandAll, StandBoth, equals_stand, membership_stands, negation_stands, conjunction_stands, disjunction_stands, implication_stands, equivalence_stands, ceil_stands, floor_stands, first_stands, others_stand, three_tests, two_tests}
 use Rattle.kp_symbolic.proofs.Facts.{AllFacts, AllIn, clauses_have, Good, GoodTerm, opened_same_good}
+use Rattle.kp_symbolic.proofs.Leaf.{filtered_for, named_here, asked_formula}
+use Rattle.kp_symbolic.proofs.HeadQuestions.{all_weaker}
 use Rattle.kp_symbolic_laws.specs.Safe.{PutNormal, Formed, IsSoundQuote}
 use Rattle.kp_symbolic_laws.proofs.FormedFacts.{same_formed, test_formed}
 use Rattle.kp_symbolic_laws.proofs.Keeping.{test_good}
 use Rattle.kp_symbolic_laws.proofs.NormalTerms.{folded_normal}
-use Rattle.kp_symbolic_laws.proofs.OpenedGood.{LeafHas, opened_has, all_weaker, by_size}
+use Rattle.kp_symbolic_laws.proofs.OpenedGood.{LeafHas, opened_has, by_size, subject_has}
 use Rattle.kp_symbolic_laws.proofs.Sound.{place_sound}
-use Rattle.kp_symbolic_laws.proofs.WrittenUnder.{three_tests, two_tests}
-use Rattle.kp_step.proofs.QuestionLemmas.{subject_has, question_meant}
+use Rattle.kp_symbolic_laws.proofs.FormedOpened.{question_meant}
 
 -- in normal form, and written right where there is room for new names
 abbrev pub Sound : KoreSignature → Literal → Type 0
@@ -159,28 +160,6 @@ ceil_has g rs hand alone b a s p n h e = by (is_term p) refl e
 
 -- ---- predicates that aren't opened
 
--- the replacements of the names that pass the test are the same
-filtered_for : (test : Replaced → Bool) (rs : List Replaced) (y : Text) → ((r : Replaced) → bytes_eq r.name y ≡ true → test r ≡ true) → replacement_for (filter test rs) y ≡ replacement_for rs y
-filtered_for test [] y k = refl
-filtered_for test (r ∷ rs) y k = by (bytes_eq r.name y) refl (test r) refl (filtered_for test rs y k)
-  where
-    by : (b : Bool) → bytes_eq r.name y ≡ b → (c : Bool) → test r ≡ c → replacement_for (filter test rs) y ≡ replacement_for rs y → replacement_for (cond c (r ∷ filter test rs) (filter test rs)) y ≡ (if b then Some r.term else replacement_for rs y)
-    by true e true f rest = rw e refl
-    by true e false f rest = absurd (no_pass (sym (k r e) ∙ f))
-      where
-        no_pass : true ≡ false → ⊥
-        no_pass h = cc
-    by false e true f rest = rw e rest
-    by false e false f rest = rest
-
-named_here : (x : SortedName) (before xs : List SortedName) → is_named x.name (before ++ x ∷ xs) ≡ true
-named_here x [] xs = rw ((bytes_eq-Decides x.name x.name).1 refl) refl
-named_here x (y ∷ before) xs = by (bytes_eq y.name x.name) (named_here x before xs)
-  where
-    by : (b : Bool) → is_named x.name (before ++ x ∷ xs) ≡ true → b || is_named x.name (before ++ x ∷ xs) ≡ true
-    by true k = refl
-    by false k = k
-
 abbrev StandFor : List Replaced → List Replaced → SortedName → Type 0
 StandFor rs qs x = replacement_for qs x.name ≡ replacement_for rs x.name
 
@@ -218,10 +197,6 @@ quotation_has g rs hand b p n h =
     )
 
 -- ---- tests of heads
-
-abbrev asked_formula : KoreSignature → List Replaced → Bool → KorePattern → Option HeadQuestion → Formula Literal
-asked_formula g rs b p (Some q) = opened_test g b q.test (literal_fact b (quotation rs p)) (folded g rs q.subject)
-asked_formula g rs b p None = literal_fact b (quotation rs p)
 
 question_has : (g : KoreSignature) (rs : List Replaced) (hand : List SortedName) (b : Bool) (p : KorePattern) (o : Option HeadQuestion) → PutNormal g rs → head_question g [] p ≡ o → IsAmong g rs hand p → AllFacts (Right g hand) (asked_formula g rs b p o)
 question_has g rs hand b p None n e h = quotation_has g rs hand b p n h

@@ -12,7 +12,7 @@ use Rattle.kp_symbolic.specs.States.{SymbolicState}
 use Rattle.kp_satisfiability.specs.Read.{HasSortedClauses}
 use Rattle.kp_rule_sets.specs.RuleSets.{RunsAs}
 use Rattle.kp_rule_sets.specs.declared.rule_set.RuleSet.{RuleSet}
-use Rattle.kp_case_laws.specs.Parts.{StatePart, whole, OfEachInstance}
+use Rattle.kp_case_laws.specs.Parts.{whole, OfEachInstance}
 use Rattle.kp_case_laws.specs.Firing.{HasNoInstance}
 use Rattle.kp_unify.specs.Narrowed.{NumberedPart}
 use Rattle.kp_unify.specs.Views.{numbered_view}
@@ -32,6 +32,7 @@ use Rattle.kp_step.proofs.RemainderLemmas.{kept_more, kept_less}
 use Rattle.kp_step.proofs.LoopLemmas.{taken, all_taken, split_there}
 use Rattle.kp_step.proofs.OrderLemmas.{InTurn, each_is_there, none_comes_again, numbers_ahead}
 use Rattle.kp_step.proofs.SortedLemmas.{sorted_clauses}
+use Rattle.kp_step.proofs.AskedLemmas.{instance_there}
 
 -- ---- parts that are decided
 
@@ -46,9 +47,6 @@ decides_begin g used all items kept e k h =
     subst (λ xs. Deciding g used (numbered_views all) (numbered_views xs) (numbered_views kept)) (sym e)
     (subst (λ ks. Deciding g used (numbered_views all) (numbered_views all) (numbered_views ks)) (sym k) (decides_first g used (numbered_views all) h))
 
-there : (g : KoreSignature) (p : StatePart) → HasInstance g (whole p.state) → HasInstance g p
-there g p i = record { valuation = i.valuation; configuration = i.configuration; sorts = i.sorts; met = i.met }
-
 pub decides_more : (g : KoreSignature) (used : List Text) (all kept new items rest : List Part) (p : Part) → items ≡ p ∷ rest → new ≡ kept ++ p ∷ [] → HasInstance g (whole (numbered_view p).part.state) →
     Deciding g used (numbered_views all) (numbered_views items) (numbered_views kept) → Deciding g used (numbered_views all) (numbered_views rest) (numbered_views new)
 decides_more g used all kept new items rest p e n i d =
@@ -56,7 +54,7 @@ decides_more g used all kept new items rest p e n i d =
     let h : Deciding g used (numbered_views all) (q ∷ numbered_views rest) (numbered_views kept) = subst (λ xs. Deciding g used (numbered_views all) (numbered_views xs) (numbered_views kept)) e d in
     let seen : numbered_views new ≡ numbered_views kept ++ q ∷ [] = ap numbered_views n ∙ map-append numbered_view kept (p ∷ []) in
     subst (Deciding g used (numbered_views all) (numbered_views rest)) (sym seen)
-    (h.0.1, h.1.1, kept_more g (numbered_views kept) (numbered_views rest) (numbered_views all) q (there g q.part i) h.2)
+    (h.0.1, h.1.1, kept_more g (numbered_views kept) (numbered_views rest) (numbered_views all) q (instance_there g q.part i) h.2)
 
 pub decides_less : (g : KoreSignature) (used : List Text) (all kept items rest : List Part) (p : Part) → items ≡ p ∷ rest → HasNoInstance g (whole (numbered_view p).part.state) →
     Deciding g used (numbered_views all) (numbered_views items) (numbered_views kept) → Deciding g used (numbered_views all) (numbered_views rest) (numbered_views kept)
@@ -123,13 +121,13 @@ pub finds_turn : (t : Theory) (used : List Text) (s : SymbolicState) (rules : Ru
 finds_turn t used s rules places i place turns new k runs turn h e n p f j before =
     let ahead = take i places in
     let split : ahead ++ (turn_view k).place ∷ drop (i + 1) places ≡ places = ap (λ x. ahead ++ x ∷ drop (i + 1) places) p ∙ sym (split_there places i place h e) in
-    let there : InTurn rules (ahead ++ (turn_view k).place ∷ drop (i + 1) places) = subst (InTurn rules) (sym split) turn in
+    let instance_there : InTurn rules (ahead ++ (turn_view k).place ∷ drop (i + 1) places) = subst (InTurn rules) (sym split) turn in
     let seen : map turn_view new ≡ map turn_view turns ++ turn_view k ∷ [] = ap (map turn_view) n ∙ map-append turn_view turns (k ∷ []) in
     let more : take (i + 1) places ≡ ahead ++ (turn_view k).place ∷ [] = taken places i place h e ∙ ap (λ x. ahead ++ x ∷ []) (sym p) in
     subst (λ ks. FoundAt t used s places (i + 1) ks) (sym seen)
     (subst (λ xs. AreFound t used (whole s) xs (map turn_view turns ++ turn_view k ∷ [])) (sym more)
-    (turn_found t used (whole s) ahead (map turn_view turns) (turn_view k) f (none_comes_again rules ahead (drop (i + 1) places) (turn_view k).place there)
-    (numbers_ahead t used (whole s) rules ahead (drop (i + 1) places) (map turn_view turns) (map turn_view turns) (turn_view k) runs there f.each f.among j) j before))
+    (turn_found t used (whole s) ahead (map turn_view turns) (turn_view k) f (none_comes_again rules ahead (drop (i + 1) places) (turn_view k).place instance_there)
+    (numbers_ahead t used (whole s) rules ahead (drop (i + 1) places) (map turn_view turns) (map turn_view turns) (turn_view k) runs instance_there f.each f.among j) j before))
 
 pub finds_all : (t : Theory) (used : List Text) (s : SymbolicState) (rules : RuleSet) (places : List ℕ) (i : ℕ) (turns : List PlacedTurn) → RunsAs t rules → InTurn rules places → length places ≤ i → FoundAt t used s places i turns → AreAllFound t used (whole s) turns
 finds_all t used s rules places i turns runs turn past f =

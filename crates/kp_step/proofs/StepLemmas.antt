@@ -13,6 +13,7 @@ use Rattle.kp_kore.specs.Steps.{IsUnknown}
 use Rattle.kp_kore.specs.Cases.{HaveOneSort}
 use Rattle.kp_kore.proofs.ListLemmas.{all_append, all_left}
 use Rattle.kp_kore.proofs.TurnLemmas.{each_member}
+use Rattle.kp_kore.proofs.ArcLemmas.{sorts_stay}
 use Rattle.kp_symbolic.specs.States.{SymbolicState, IsStateInstance}
 use Rattle.kp_symbolic.specs.WellFormed.{AreAtHand}
 use Rattle.kp_symbolic_laws.specs.Runs.{HasOneSortEach}
@@ -22,7 +23,6 @@ use Rattle.kp_case_laws.specs.Narrowings.{sorts_of_names}
 use Rattle.kp_case_laws.proofs.NewVariables.{scope_stays, new_sorts}
 use Rattle.kp_case_laws.specs.Turns.{Turn, rules_of}
 use Rattle.kp_case_laws.specs.NextStates.{StepCase, IsNext, placed, HaveOwnIds, AreStepCases, HaveValues, IsWithinHand, FollowsBy}
-use Rattle.kp_case_laws.proofs.AtHandLemmas.{sorts_stay}
 use Rattle.kp_case_laws.proofs.TurnsFound.{remainder_fires_none}
 use Rattle.kp_unify.specs.Narrowed.{NumberedPart}
 use Rattle.kp_step.specs.Places.{IsAt}

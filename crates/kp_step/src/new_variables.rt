@@ -2,7 +2,6 @@
 ghost use Rattle.std.specs.Prelude.{◌≡◌, ◌++◌, IfOk, OnOk, List, map, string_bytes, is_some};
 ghost use Rattle.kp_kore.specs.Syntax.{Text};
 ghost use Rattle.kp_kore.specs.View.{sorted_variable_view};
-ghost use Rattle.kp_kore.specs.Instance.{is_named};
 ghost use Rattle.kp_symbolic.specs.Terms.{unknown, replacement_for};
 ghost use Rattle.kp_symbolic.specs.View.{replaced_view, variable_view};
 ghost use Rattle.kp_unify.specs.Views.{IsSetting};
@@ -11,6 +10,7 @@ ghost use Rattle.kp_step.specs.RightSides.{AreChosen, IsChosenOne};
 ghost use Rattle.kp_step.specs.Chosen.{chosen_view};
 
 use kp_kore::SortedVariable;
+use kp_rules::is_named;
 use kp_symbolic::{Replaced, Term, Variable};
 use kp_unify::Setting;
 use kp_unify::new_names::new_variable;
@@ -94,18 +94,6 @@ pub fn choose(
     Ok(chosen)
 }
 
-/// Whether the name is that of one of the variables.
-fn is_among(own: &[SortedVariable], name: &str) -> bool
-    ensures { result ≡ is_named name.now (map sorted_variable_view own.now) }
-{
-    for one in own {
-        if one.name.as_str() == name {
-            return true;
-        }
-    }
-    false
-}
-
 /// What the left side's variables stand for, but for those of the name of a new one, which hide them.
 fn kept_bindings(
     alloc: Global,
@@ -116,7 +104,7 @@ fn kept_bindings(
 {
     let mut kept = Vec::new(alloc);
     for binding in bindings {
-        if !is_among(own, binding.name.as_str()) {
+        if !is_named(binding.name.as_str(), own) {
             kept.push(binding.share(alloc)?)?;
         }
     }

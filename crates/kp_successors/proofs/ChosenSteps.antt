@@ -3,7 +3,6 @@ use Rattle.std.proofs.Common.{◌≡◌, refl, sym, ap, subst, ◌∙◌, Bool, 
 use Rattle.std.specs.Prelude.{◌⊎◌}
 use Rattle.std.specs.List.{AllByRecursion, list_all, filter}
 use Rattle.std.specs.Str.{bytes_eq}
-use Rattle.std.proofs.lemmas.List.{append_assoc}
 use Rattle.std.proofs.lemmas.List.Folds.{list_all-append, list_any-append}
 use Rattle.kp_kore.specs.Syntax.{Text, KoreSort, KorePattern, variable, set_variable, application, string_literal, literal, top, bottom, negation, next, conjunction, disjunction, implication, equivalence, rewriting, exists, forall, ceil, floor, equals, membership, mu, nu}
 use Rattle.kp_kore.specs.Attributes.{sorts_equal}
@@ -16,6 +15,7 @@ use Rattle.kp_kore.specs.Rules as model
 use Rattle.kp_kore.specs.Steps.{LeadsTo}
 use Rattle.kp_kore.proofs.InstanceLemmas.{same_instance, agrees_first, agrees_second}
 use Rattle.kp_kore.proofs.TruthLemmas.{same_truth}
+use Rattle.kp_kore.proofs.FreeVariables.{free_append}
 use Rattle.kp_rules.specs.Bodies.{IsLonePredicate, IsConstrained}
 use Rattle.kp_pattern_substitution.specs.Substitution.{ReplacedName, substituted, is_replaced, AreClosed, with_replaced}
 use Rattle.kp_pattern_substitution.proofs.Substituted.{substituted_instance, substituted_truth, substituted_is_term}
@@ -127,11 +127,6 @@ top_free (membership a s p q) h = absurd (cc)
 top_free (mu x s p) h = absurd (cc)
 top_free (nu x s p) h = absurd (cc)
 
--- sorts of what stands free in two lists of predicates
-free_of_both : (ps qs : List KorePattern) → all_free_variables (patterns_of (ps ++ qs)) ≡ all_free_variables (patterns_of ps) ++ all_free_variables (patterns_of qs)
-free_of_both [] qs = refl
-free_of_both (p ∷ ps) qs = ap (λ l. free_variables p ++ l) (free_of_both ps qs) ∙ sym (append_assoc (free_variables p) (all_free_variables (patterns_of ps)) (all_free_variables (patterns_of qs)))
-
 equalities_give : (g : KoreSignature) (w : Valuation) (s : KoreSort) (xs : List SortedName) → GivesSorts g w xs → GivesSorts g w (all_free_variables (patterns_of (map (equal_to_itself s) xs)))
 equalities_give g w s [] h = tt
 equalities_give g w s (x ∷ xs) h = (h.0, (h.0, equalities_give g w s xs h.1))
@@ -166,7 +161,7 @@ give_pattern g s m rs w c k h =
     subst (GivesSorts g w) (sym (constrained_free s (substituted rs m.right) (qs ++ es)))
     (all_joined Has (free_variables (substituted rs m.right)) (all_free_variables (patterns_of (qs ++ es)))
     (subst (GivesSorts g w) (sym (substituted_free rs m.right c)) (known_sorts g left new rs w (free_variables m.right) k.names known.0 h))
-    (subst (GivesSorts g w) (sym (free_of_both qs es))
+    (subst (GivesSorts g w) (sym (free_append qs es))
     (all_joined Has (all_free_variables (patterns_of qs)) (all_free_variables (patterns_of es))
     (ensured_give g left new rs w m.ensured c k.names known.1 h)
     (equalities_give g w s (unused m.right m.ensured new) (all_filtered Has (λ x. not (is_among x (free_beside m.right m.ensured))) new h)))))
@@ -212,7 +207,7 @@ new_given g s m rs w c k h =
     let all : GivesSorts g w (free_beside (substituted rs m.right) (qs ++ es)) = subst (GivesSorts g w) (constrained_free s (substituted rs m.right) (qs ++ es)) h in
     let right : GivesSorts g w (staying rs (free_variables m.right)) = subst (GivesSorts g w) (substituted_free rs m.right c) (all_first Has (free_variables (substituted rs m.right)) (all_free_variables (patterns_of (qs ++ es))) all) in
     let beside : GivesSorts g w (all_free_variables (patterns_of qs) ++ all_free_variables (patterns_of es)) =
-    subst (GivesSorts g w) (free_of_both qs es) (all_second Has (free_variables (substituted rs m.right)) (all_free_variables (patterns_of (qs ++ es))) all) in
+    subst (GivesSorts g w) (free_append qs es) (all_second Has (free_variables (substituted rs m.right)) (all_free_variables (patterns_of (qs ++ es))) all) in
     let ensured = all_first Has (all_free_variables (patterns_of qs)) (all_free_variables (patterns_of es)) beside in
     equality_gives g w s (λ x. not (is_among x (free_beside m.right m.ensured))) (λ x. is_named x.name new ≡ true) new
     (λ x named e. stands x named (not_true (is_among x (free_beside m.right m.ensured)) e) right ensured)

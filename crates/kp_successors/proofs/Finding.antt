@@ -2,7 +2,6 @@
 use Rattle.std.proofs.Common.{◌≡◌, refl, sym, ap, subst, ◌∙◌, ℕ, zero, suc, ◌+◌, ◌<◌, length, drop, get_or, Bool, true, false, not, ◌&&◌, ◌||◌, ◌↔◌, List, [], ◌∷◌, map, Option, Some, None, Ok, Err, Vec, inr, arith, nat_eq}
 use Rattle.std.specs.Prelude.{◌⊎◌, IsTrue, IfSome}
 use Rattle.std.specs.Option.{is_some}
-use Rattle.std.proofs.lemmas.Bool.Decides.{Decides-eqb}
 use Rattle.std.specs.List.{list_all}
 use Rattle.std.specs.declared.alloc.Global.{Global}
 use Rattle.kp_kore.specs.Syntax.{KorePattern}
@@ -102,11 +101,6 @@ fails_at f (y ∷ ys) (suc i) x lt is h = fails_at f ys i x (omega arith) is h
 pub not_none : (b : Bool) (xs : List SortedVariable) → b ≡ nat_eq (length xs) 0 → b ≡ false → ¬ (map sorted_variable_view xs ≡ [])
 not_none b [] e f h = absurd (cc)
 not_none b (x ∷ xs) e f h = absurd (cc)
-
--- and one that is
-pub is_none : (b : Bool) (xs : List SortedVariable) → b ≡ nat_eq (length xs) 0 → b ≡ true → map sorted_variable_view xs ≡ []
-is_none b [] e f = refl
-is_none b (x ∷ xs) e f = let none : length (x ∷ xs) ≡ 0 = (Decides-eqb (length (x ∷ xs)) 0).0 (sym e ∙ f) in absurd (cc)
 
 -- the last of three, where the second isn't
 pub last_of : (a b c : Bool) → b ≡ false → (a && b) || c ≡ true → c ≡ true

@@ -93,11 +93,11 @@ same_numbers : (m n : ℤ) → truth (not (int_eq m n)) ≡ truth false → whol
 same_numbers m n h = ap whole ((Decides-int_eq m n).0 (no_difference (int_eq m n) (truth_inside h)))
 
 -- both arguments of a comparison are whole numbers
-record AreNumbers (u w : Value) : Type 0 where
-  first : ℤ
-  second : ℤ
-  first_is : u ≡ whole first
-  second_is : w ≡ whole second
+pub record AreNumbers (u w : Value) : Type 0 where
+  pub first : ℤ
+  pub second : ℤ
+  pub first_is : u ≡ whole first
+  pub second_is : w ≡ whole second
 
 two_numbers : (g : KoreSignature) (ss : KoreSorts) (u w : Value) → are_two (is_number_sort g) ss ≡ true → HaveSorts g ss (two u w) → AreNumbers u w
 two_numbers g no_sorts u w e h = absurd (cc)
@@ -108,7 +108,7 @@ two_numbers g (next_sort a (next_sort b no_sorts)) u w e h =
     let n = number_value g b w (second_true (is_number_sort g a) (is_number_sort g b) e) h.1.0 in
     record { first = m.0; second = n.0; first_is = m.1; second_is = n.1 }
 
-numbers_of : (g : KoreSignature) (v : Valuation) (s : KoreSort) (f : Text) (t u : SymbolicTerm) (c : Comparison) → meaning_of g f ≡ interpretation (whole_comparison c) → IsWellSorted g s (headed f (next_term t (next_term u no_terms))) → GivesSorts g v (term_variables (headed f (next_term t (next_term u no_terms)))) → AreNumbers (term_instance g v t) (term_instance g v u)
+pub numbers_of : (g : KoreSignature) (v : Valuation) (s : KoreSort) (f : Text) (t u : SymbolicTerm) (c : Comparison) → meaning_of g f ≡ interpretation (whole_comparison c) → IsWellSorted g s (headed f (next_term t (next_term u no_terms))) → GivesSorts g v (term_variables (headed f (next_term t (next_term u no_terms)))) → AreNumbers (term_instance g v t) (term_instance g v u)
 numbers_of g v s f t u c m w h =
     let k = plain_symbol g f w.0 in
     two_numbers g k.declaration.arguments (term_instance g v t) (term_instance g v u) (first_true (are_two (is_number_sort g) k.declaration.arguments) (is_truth_sort g k.declaration.result) (symbol_fits g f k (whole_comparison c) m))
@@ -201,7 +201,7 @@ met_value g v s a true t o e w h z i q =
 met_value g v s a false t o e w h z i q =
     met_first g v (equation_of_truth g (beq a false) t) None e (λ d k. met_truth g v s (beq a false) t d w h (other_truth a (term_instance g v t) (call_truth g v (beq a false) t d k) z ∙ ap truth (sym (by_false a))) k) (λ d k. absurd (none_is_some k)) q
 
-turned : (b : Bool) (u w : Value) → MatchBool b (u ≡ w) (¬ (u ≡ w)) → MatchBool b (w ≡ u) (¬ (w ≡ u))
+pub turned : (b : Bool) (u w : Value) → MatchBool b (u ≡ w) (¬ (u ≡ w)) → MatchBool b (w ≡ u) (¬ (w ≡ u))
 turned true u w h = sym h
 turned false u w n = λ e. n (sym e)
 

@@ -43,18 +43,18 @@ mapped : (g : KoreSignature) (c : List Literal) → literals_of (map (λ l. reco
 mapped g [] = refl
 mapped g (l ∷ c) = ap (λ k. l ∷ k) (mapped g c)
 
-read_keeps : (g : KoreSignature) (s : SymbolicState) (others : List (List Literal)) (c : List Literal) → literals_of (read_clause g s others c) ≡ c
+pub read_keeps : (g : KoreSignature) (s : SymbolicState) (others : List (List Literal)) (c : List Literal) → literals_of (read_clause g s others c) ≡ c
 read_keeps g s others [] = refl
 read_keeps g s others (l ∷ []) = refl
 read_keeps g s others (l ∷ m ∷ c) = ap (λ k. l ∷ m ∷ k) (mapped g c)
 
-all_read : (g : KoreSignature) (s : SymbolicState) (before after : List (List Literal)) → map literals_of (read_from g s before after) ≡ after
+pub all_read : (g : KoreSignature) (s : SymbolicState) (before after : List (List Literal)) → map literals_of (read_from g s before after) ≡ after
 all_read g s before [] = refl
 all_read g s before (c ∷ after) = ap (λ k. k ∷ map literals_of (read_from g s (before ++ c ∷ []) after)) (read_keeps g s (before ++ after) c) ∙ ap (λ cs. c ∷ cs) (all_read g s (before ++ c ∷ []) after)
 
 -- ---- what is plain tells of the state
 
-kept_true : {X : Type 0} (P : List Literal → Type 0) (of : X → List Literal) (test : X → Bool) (cs : List X) → AllByRecursion P (map of cs) → AllByRecursion P (map of (filter test cs))
+pub kept_true : {X : Type 0} (P : List Literal → Type 0) (of : X → List Literal) (test : X → Bool) (cs : List X) → AllByRecursion P (map of cs) → AllByRecursion P (map of (filter test cs))
 kept_true P of test [] h = tt
 kept_true P of test (c ∷ cs) h = by_test (test c) (kept_true P of test cs h.1)
   where

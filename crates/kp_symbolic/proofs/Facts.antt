@@ -63,19 +63,19 @@ mutual
 
 -- ---- formulas
 
-fixed_good : (P : Literal → Type 0) (b : Bool) → AllFacts P (fixed b)
+pub fixed_good : (P : Literal → Type 0) (b : Bool) → AllFacts P (fixed b)
 fixed_good P true = tt
 fixed_good P false = tt
 
-if_good : (P : Literal → Type 0) (b : Bool) (fs : Formulas Literal) → AllIn P fs → AllFacts P (all_if b fs)
+pub if_good : (P : Literal → Type 0) (b : Bool) (fs : Formulas Literal) → AllIn P fs → AllFacts P (all_if b fs)
 if_good P true fs a = a
 if_good P false fs a = a
 
-choose : (P : Literal → Type 0) (c : Bool) (f h : Formula Literal) → AllFacts P f → AllFacts P h → AllFacts P (if c then f else h)
+pub choose : (P : Literal → Type 0) (c : Bool) (f h : Formula Literal) → AllFacts P f → AllFacts P h → AllFacts P (if c then f else h)
 choose P true f h a b = a
 choose P false f h a b = b
 
-fixed_or_good : (P : Literal → Type 0) (o : Option Bool) (b : Bool) (f : Formula Literal) → AllFacts P f → AllFacts P (fixed_or o b f)
+pub fixed_or_good : (P : Literal → Type 0) (o : Option Bool) (b : Bool) (f : Formula Literal) → AllFacts P f → AllFacts P (fixed_or o b f)
 fixed_or_good P (Some c) b f a = fixed_good P (beq c b)
 fixed_or_good P None b f a = a
 
@@ -135,7 +135,7 @@ one_name : (P : Literal → Type 0) (b s : Bool) (fs : Formulas Literal) → (s 
 one_name P b true fs a = if_good P b fs (a refl)
 one_name P b false fs a = fixed_good P (not b)
 
-sides_good : (g : KoreSignature) (P : Literal → Type 0) (b : Bool) (kept : Formula Literal) (t u : SymbolicTerm) (c d : Option Text) (fs : Formulas Literal) → ((k : Text) → c ≡ Some k → d ≡ Some k → AllIn P fs) → AllFacts P kept → AllFacts P (opened_sides g b kept t u c d fs)
+pub sides_good : (g : KoreSignature) (P : Literal → Type 0) (b : Bool) (kept : Formula Literal) (t u : SymbolicTerm) (c d : Option Text) (fs : Formulas Literal) → ((k : Text) → c ≡ Some k → d ≡ Some k → AllIn P fs) → AllFacts P kept → AllFacts P (opened_sides g b kept t u c d fs)
 sides_good g P b kept t u (Some k) (Some l) fs a h = one_name P b (bytes_eq k l) fs (λ e. a k refl (ap Some (sym ((bytes_eq-Decides k l).0 e))))
 sides_good g P b kept t u (Some k) None fs a h = choose P (is_never g t u) (fixed (not b)) kept (fixed_good P (not b)) h
 sides_good g P b kept t u None (Some l) fs a h = choose P (is_never g u t) (fixed (not b)) kept (fixed_good P (not b)) h

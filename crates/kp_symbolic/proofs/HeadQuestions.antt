@@ -94,7 +94,7 @@ off_names w (x ∷ xs) no_values y n = refl
 off_names w (x ∷ xs) (next_value u us) y n = let e = either_false (bytes_eq x.name y) (is_named y xs) n in off_names (assigned w x.name u) xs us y e.1 ∙ ap (λ b. if b then u else w y) e.0
 
 -- what holds of each free variable holds of those of the body that aren't bound
-without_all : (Q : SortedName → Type 0) (x : Text) (ys : List SortedName) → AllByRecursion Q (without_name x ys) → AllByRecursion (λ z. bytes_eq z.name x ≡ false → Q z) ys
+pub without_all : (Q : SortedName → Type 0) (x : Text) (ys : List SortedName) → AllByRecursion Q (without_name x ys) → AllByRecursion (λ z. bytes_eq z.name x ≡ false → Q z) ys
 without_all Q x [] a = tt
 without_all Q x (y ∷ ys) a = by (bytes_eq y.name x) (without_all Q x ys) a
   where
@@ -102,7 +102,7 @@ without_all Q x (y ∷ ys) a = by (bytes_eq y.name x) (without_all Q x ys) a
     by true k a = ((λ f. absurd (cc)), k a)
     by false k a = ((λ f. a.0), k a.1)
 
-all_weaker : (P Q : SortedName → Type 0) (xs : List SortedName) → ((x : SortedName) → P x → Q x) → AllByRecursion P xs → AllByRecursion Q xs
+pub all_weaker : (P Q : SortedName → Type 0) (xs : List SortedName) → ((x : SortedName) → P x → Q x) → AllByRecursion P xs → AllByRecursion Q xs
 all_weaker P Q [] f h = tt
 all_weaker P Q (x ∷ xs) f h = (f x h.0, all_weaker P Q xs f h.1)
 
@@ -330,7 +330,7 @@ number_head g s u i h = ap head_of (number_value g s u i h).1
 truth_head : (g : KoreSignature) (s : KoreSort) (u : Value) → is_truth_sort g s ≡ true → HasSort g s u → head_of u ≡ booleans
 truth_head g s u i h = ap head_of (truth_value g s u i h).1
 
-call_head : (g : KoreSignature) (h : Hook) (ss : KoreSorts) (s : KoreSort) (u : Value) → fits_hook g h ss s ≡ true → HasSort g s u → head_of u ≡ head_of_call h
+pub call_head : (g : KoreSignature) (h : Hook) (ss : KoreSorts) (s : KoreSort) (u : Value) → fits_hook g h ss s ≡ true → HasSort g s u → head_of u ≡ head_of_call h
 call_head g (whole_arithmetic a) ss s u e h = number_head g s u (second_true (are_two (is_number_sort g) ss) (is_number_sort g s) e) h
 call_head g (whole_comparison c) ss s u e h = truth_head g s u (second_true (are_two (is_number_sort g) ss) (is_truth_sort g s) e) h
 call_head g (truth_connective c) ss s u e h = truth_head g s u (second_true (are_two (is_truth_sort g) ss) (is_truth_sort g s) e) h

@@ -39,7 +39,7 @@ use Rattle.kp_symbolic.proofs.HeadQuestions.{question_says, test_says}
 -- ---- quoted predicates
 
 -- the replacements of the names that pass the test are the same
-filtered_for : (test : Replaced → Bool) (rs : List Replaced) (y : Text) → ((r : Replaced) → bytes_eq r.name y ≡ true → test r ≡ true) → replacement_for (filter test rs) y ≡ replacement_for rs y
+pub filtered_for : (test : Replaced → Bool) (rs : List Replaced) (y : Text) → ((r : Replaced) → bytes_eq r.name y ≡ true → test r ≡ true) → replacement_for (filter test rs) y ≡ replacement_for rs y
 filtered_for test [] y k = refl
 filtered_for test (r ∷ rs) y k = by (bytes_eq r.name y) refl (test r) refl (filtered_for test rs y k)
   where
@@ -56,7 +56,7 @@ under_filtered : (g : KoreSignature) (rs : List Replaced) (v : Valuation) (test 
 under_filtered g rs v test [] a = tt
 under_filtered g rs v test (x ∷ xs) a = (rw a.0 refl, under_filtered g rs v test xs a.1)
 
-named_here : (x : SortedName) (before xs : List SortedName) → is_named x.name (before ++ x ∷ xs) ≡ true
+pub named_here : (x : SortedName) (before xs : List SortedName) → is_named x.name (before ++ x ∷ xs) ≡ true
 named_here x [] xs = rw ((bytes_eq-Decides x.name x.name).1 refl) refl
 named_here x (y ∷ before) xs = by (bytes_eq y.name x.name) (named_here x before xs)
   where
@@ -170,7 +170,7 @@ all_placed : (g : KoreSignature) (rs : List Replaced) (v : Valuation) (xs : List
 all_placed g rs v [] a b = tt
 all_placed g rs v (x ∷ xs) a b = ((a.0, b.0), all_placed g rs v xs a.1 b.1)
 
-abbrev asked_formula : KoreSignature → List Replaced → Bool → KorePattern → Option HeadQuestion → Formula Literal
+abbrev pub asked_formula : KoreSignature → List Replaced → Bool → KorePattern → Option HeadQuestion → Formula Literal
 asked_formula g rs b p (Some q) = opened_test g b q.test (literal_fact b (quotation rs p)) (folded g rs q.subject)
 asked_formula g rs b p None = literal_fact b (quotation rs p)
 

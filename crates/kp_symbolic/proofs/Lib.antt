@@ -1,3 +1,4 @@
+pub mod Agreeing
 pub mod AlikeLemmas
 pub mod CallOpening
 pub mod Denied
@@ -8,9 +9,12 @@ pub mod Exact
 pub mod EqualityLemmas
 pub mod Equations
 pub mod Facts
+pub mod FaultlessParts
 pub mod Folded
+pub mod Found
 pub mod HeadLemmas
 pub mod HeadQuestions
+pub mod KeptFacts
 pub mod Leaf
 pub mod NormalForm
 pub mod NumericNames

@@ -67,7 +67,7 @@ sum_shape : (g : KoreSignature) (o : Option Sum) (c : ℤ) (call : SymbolicTerm)
 sum_shape g (Some m) c call i = at_constant g m.variable (m.constant +ℤ c) call (int_eq (m.constant +ℤ c) (pos 0)) (can_be_added g (m.constant +ℤ c)) (i m refl) refl refl
 sum_shape g None c call i = inl refl
 
-integer_at : (g : KoreSignature) (x : SortedName) (c : ℤ) (m : Sum) (b : Bool) → is_number_sort g x.sort ≡ b → (if b then Some (record { variable = x; constant = c }) else None) ≡ Some m → is_number_sort g m.variable.sort ≡ true
+pub integer_at : (g : KoreSignature) (x : SortedName) (c : ℤ) (m : Sum) (b : Bool) → is_number_sort g x.sort ≡ b → (if b then Some (record { variable = x; constant = c }) else None) ≡ Some m → is_number_sort g m.variable.sort ≡ true
 integer_at g x c m true i e = let y : x ≡ m.variable = cc in subst (λ z. is_number_sort g z.sort ≡ true) y i
 integer_at g x c m false i e = absurd (cc)
 

@@ -61,11 +61,11 @@ both_read g v (p ∷ ps) a b = (record { stands = a.0.0.0; predicate = b.0; give
 
 -- ---- the state
 
-abbrev state_of_sort : KoreSignature → KorePattern → KorePattern → Option KoreSort → Option SymbolicState
+abbrev pub state_of_sort : KoreSignature → KorePattern → KorePattern → Option KoreSort → Option SymbolicState
 state_of_sort g p t (Some s) = Some (record { term = folded g [] t; sort = s; clauses = without_repeats (clauses_of_conjuncts g [] 0 (conjoined_predicates p)); variables = free_variables p })
 state_of_sort g p t None = None
 
-abbrev state_of : KoreSignature → KorePattern → List KorePattern → Option SymbolicState
+abbrev pub state_of : KoreSignature → KorePattern → List KorePattern → Option SymbolicState
 state_of g p (t ∷ []) = state_of_sort g p t (sort_of_term g t)
 state_of g p [] = None
 state_of g p (t ∷ u ∷ ts) = None

@@ -117,13 +117,13 @@ pub record AreRead (g : KoreSignature) (rs : List Replaced) (v : Valuation) (ps 
   pub predicates : are_predicates ps ≡ true
   pub given : AreGiven g rs v (all_free_variables ps)
 
-three_tests : (a b c : Bool) → a || b || c ≡ true → a ≡ false → c ≡ false → b ≡ true
+pub three_tests : (a b c : Bool) → a || b || c ≡ true → a ≡ false → c ≡ false → b ≡ true
 three_tests a true c h e f = refl
 three_tests true false c h e f = absurd (cc)
 three_tests false false true h e f = absurd (cc)
 three_tests false false false h e f = absurd (cc)
 
-two_tests : (a b : Bool) → a || b ≡ true → a ≡ false → b ≡ true
+pub two_tests : (a b : Bool) → a || b ≡ true → a ≡ false → b ≡ true
 two_tests a true h e = refl
 two_tests true false h e = absurd (cc)
 two_tests false false h e = absurd (cc)

@@ -1,9 +1,8 @@
 -- A state in which an equation is solved has the instances that it had, under valuations for which it is ready.
 use Rattle.std.proofs.Common.{◌≡◌, refl, sym, ◌∙◌, subst, ℕ, zero, suc, ◌+◌, Bool, true, false, not, ◌&&◌, List, [], ◌∷◌, ◌++◌, map, length, Option, Some, None, ◌↔◌}
-use Rattle.std.specs.Prelude.{if◌then◌else◌, is_some, nat_le}
+use Rattle.std.specs.Prelude.{if◌then◌else◌, is_some}
 use Rattle.std.specs.List.{AllByRecursion, flat_map}
 use Rattle.std.specs.Str.{bytes_eq}
-use Rattle.std.proofs.lemmas.List.{append_assoc}
 use Rattle.kp_kore.specs.Syntax.{Text, KoreSort, KorePattern}
 use Rattle.kp_kore.specs.Parts.{SortedName, free_variables}
 use Rattle.kp_kore.specs.Signature.{KoreSignature}
@@ -18,7 +17,7 @@ use Rattle.kp_symbolic.specs.Folding.{term_for, replaced}
 use Rattle.kp_symbolic.specs.Opening.{literal_fact, opened_same, opened_test}
 use Rattle.kp_symbolic.specs.Clauses.{distributed, is_too_large}
 use Rattle.kp_symbolic.specs.Writing.{IsSaid, written_clause}
-use Rattle.kp_symbolic.specs.Solving.{Equation, equation_of, replacement, replaced_after, opened_with, all_opened_with, is_single, opened_clause, solved_clause, literals_in, solved_clauses, Solvable, solvable_if, first_of_two, first_solvable_among, first_solvable, stands_elsewhere, most_solved, solved_at, IsReadyAtom}
+use Rattle.kp_symbolic.specs.Solving.{Equation, replacement, replaced_after, opened_with, all_opened_with, is_single, opened_clause, solved_clause, literals_in, solved_clauses, Solvable, first_solvable, solved_at, IsReadyAtom}
 use Rattle.kp_symbolic.proofs.Distribution.{all_both, all_first, all_second}
 use Rattle.kp_symbolic.proofs.Folded.{for_instance, for_variables}
 use Rattle.kp_symbolic.proofs.SeenLemmas.{Says}
@@ -30,6 +29,7 @@ use Rattle.kp_symbolic.proofs.HeadQuestions.{test_says}
 use Rattle.kp_symbolic.proofs.Leaf.{formula_says, one_literal, once_says, then_says}
 use Rattle.kp_symbolic.proofs.Equations.{IsMet, met_clause}
 use Rattle.kp_symbolic.proofs.Written.{clause_said}
+use Rattle.kp_symbolic.proofs.Found.{at_place, found_in, at_place_still}
 
 abbrev Placed : KoreSignature → Equation → SortedName → Type 0
 Placed g e x = IsWellSorted g x.sort (term_for x (replacement_for (replacement e) x.name))
@@ -72,7 +72,7 @@ after_is g v e (r ∷ rs) tail y k n = by (bytes_eq r.name y) refl (after_is g v
     by true q i = rw q (k r.term (rw q refl))
     by false q i = rw q (i (λ t z. k t (rw q z)) n)
 
-tail_is : (g : KoreSignature) (v : Valuation) (e : Equation) (b : Bool) (y : Text) → IsMet g v e → under_replaced g (if b then replacement e else []) v y ≡ v y
+pub tail_is : (g : KoreSignature) (v : Valuation) (e : Equation) (b : Bool) (y : Text) → IsMet g v e → under_replaced g (if b then replacement e else []) v y ≡ v y
 tail_is g v e true y m = one_replaced g v e.variable.name e.term m y
 tail_is g v e false y m = refl
 
@@ -99,7 +99,7 @@ all_ready g v e rs (x ∷ xs) w h =
     let others = flat_map (λ x. variables_for x (replacement_for rs x.name)) xs in
     ((w.0, all_first (Sorted g e v) (variables_for x (replacement_for rs x.name)) others h), all_ready g v e rs xs w.1 (all_second (Sorted g e v) (variables_for x (replacement_for rs x.name)) others h))
 
-by_truth : (g : KoreSignature) (v : Valuation) (b : Bool) (p : KorePattern) (rs qs : List Replaced) → AgreesOn (free_variables p) (under_replaced g rs v) (under_replaced g qs v) → Says g v b (literal_fact b (quoted p qs)) (IsTrueUnder g (under_replaced g rs v) p)
+pub by_truth : (g : KoreSignature) (v : Valuation) (b : Bool) (p : KorePattern) (rs qs : List Replaced) → AgreesOn (free_variables p) (under_replaced g rs v) (under_replaced g qs v) → Says g v b (literal_fact b (quoted p qs)) (IsTrueUnder g (under_replaced g rs v) p)
 by_truth g v true p rs qs a = let k = same_truth g p (under_replaced g rs v) (under_replaced g qs v) a in (k.1, k.0)
 by_truth g v false p rs qs a = let k = same_truth g p (under_replaced g rs v) (under_replaced g qs v) a in ((λ n h. n (k.0 h)), (λ n h. n (k.1 h)))
 
@@ -119,7 +119,7 @@ atom_solved g v sort e alone b (quoted p rs) m h =
 
 -- ---- clauses
 
-abbrev AreReady : KoreSignature → Valuation → KoreSort → Equation → List Literal → Type 0
+abbrev pub AreReady : KoreSignature → Valuation → KoreSort → Equation → List Literal → Type 0
 AreReady g v sort e = AllByRecursion (λ l. IsReadyAtom g v sort e l.atom)
 
 none_solved : (g : KoreSignature) (v : Valuation) (sort : KoreSort) (e : Equation) (alone : Bool) (c : List Literal) → IsMet g v e → AreReady g v sort e c → NoneHold (IsLiteralTrue g v) (all_opened_with g e alone c) ↔ AllByRecursion (λ l. ¬ IsLiteralTrue g v l) c
@@ -134,7 +134,7 @@ opened_clause_says g v sort e c m h =
     let i = none_solved g v sort e (is_single c) c m h in
     then_says (formula_says g v (opened_clause g e c)) ((λ n f. n (i.1 f)), (λ n f. n (i.0 f)))
 
-everywhere : (g : KoreSignature) (v : Valuation) (e : Equation) (xs : List SortedName) → IsMet g v e → AgreesOn xs v (under_replaced g (replacement e) v)
+pub everywhere : (g : KoreSignature) (v : Valuation) (e : Equation) (xs : List SortedName) → IsMet g v e → AgreesOn xs v (under_replaced g (replacement e) v)
 everywhere g v e [] m = tt
 everywhere g v e (x ∷ xs) m = (one_replaced g v e.variable.name e.term m x.name, everywhere g v e xs m)
 
@@ -152,13 +152,13 @@ by_case g v true d xs bs cs A i j k = i
 by_case g v false true xs bs cs A i j k = j
 by_case g v false false xs bs cs A i j k = k
 
-clause_solved : (g : KoreSignature) (v : Valuation) (sort : KoreSort) (e : Equation) (n : ℕ) (c : List Literal) → IsMet g v e → AreReady g v sort e c → AreTrue g v (solved_clause g sort e n c) ↔ IsClauseTrue g v c
+pub clause_solved : (g : KoreSignature) (v : Valuation) (sort : KoreSort) (e : Equation) (n : ℕ) (c : List Literal) → IsMet g v e → AreReady g v sort e c → AreTrue g v (solved_clause g sort e n c) ↔ IsClauseTrue g v c
 clause_solved g v sort e n c m h = by_case g v (not (is_named e.variable.name (clause_variables c))) (is_too_large n (opened_clause g e c)) (c ∷ []) ((record { holds = true; atom = quoted (written_clause g sort c) (replacement e) } ∷ []) ∷ []) (distributed (opened_clause g e c)) (IsClauseTrue g v c)
     ((λ a. a.0), (λ a. (a, tt)))
     (quoted_clause_says g v sort e c m h)
     (opened_clause_says g v sort e c m h)
 
-two_lists : (g : KoreSignature) (v : Valuation) (xs bs : List (List Literal)) (A B : Type 0) → AreTrue g v xs ↔ A → AreTrue g v bs ↔ B → AreTrue g v (xs ++ bs) ↔ (A × B)
+pub two_lists : (g : KoreSignature) (v : Valuation) (xs bs : List (List Literal)) (A B : Type 0) → AreTrue g v xs ↔ A → AreTrue g v bs ↔ B → AreTrue g v (xs ++ bs) ↔ (A × B)
 two_lists g v xs bs A B i j = (
   (λ h. (i.0 (all_first (IsClauseTrue g v) xs bs h), j.0 (all_second (IsClauseTrue g v) xs bs h))),
   (λ h. all_both (IsClauseTrue g v) xs bs (i.1 h.0) (j.1 h.1)),
@@ -176,62 +176,6 @@ clauses_solved g v sort e n None (c ∷ cs) m h =
 
 -- ---- the equation's own clause
 
-abbrev IsAt : ℕ → List (List Literal) → List Literal → Type 0
-IsAt i [] d = ⊥
-IsAt zero (c ∷ cs) d = c ≡ d
-IsAt (suc i) (c ∷ cs) d = IsAt i cs d
-
-true_at : (g : KoreSignature) (v : Valuation) (i : ℕ) (cs : List (List Literal)) (d : List Literal) → AreTrue g v cs → IsAt i cs d → IsClauseTrue g v d
-true_at g v i [] d a k = absurd k
-true_at g v zero (c ∷ cs) d a k = subst (IsClauseTrue g v) k a.0
-true_at g v (suc i) (c ∷ cs) d a k = true_at g v i cs d a.1 k
-
-kept_at : (g : KoreSignature) (v : Valuation) (sort : KoreSort) (e : Equation) (n i : ℕ) (cs : List (List Literal)) (d : List Literal) → AreTrue g v (solved_clauses g sort e n (Some i) cs) → IsAt i cs d → IsClauseTrue g v d
-kept_at g v sort e n i [] d a k = absurd k
-kept_at g v sort e n zero (c ∷ cs) d a k = subst (IsClauseTrue g v) k a.0
-kept_at g v sort e n (suc i) (c ∷ cs) d a k =
-    let m = n + literals_in (solved_clause g sort e n c) in
-    kept_at g v sort e m i cs d (all_second (IsClauseTrue g v) (solved_clause g sort e n c) (solved_clauses g sort e m (Some i) cs) a) k
-
-ready_at : (P : List Literal → Type 0) (i : ℕ) (cs : List (List Literal)) (d : List Literal) → AllByRecursion P cs → IsAt i cs d → P d
-ready_at P i [] d a k = absurd k
-ready_at P zero (c ∷ cs) d a k = subst P k a.0
-ready_at P (suc i) (c ∷ cs) d a k = ready_at P i cs d a.1 k
-
-at_length : (before cs : List (List Literal)) (c : List Literal) → IsAt (length before) (before ++ c ∷ cs) c
-at_length [] cs c = refl
-at_length (b ∷ before) cs c = at_length before cs c
-
-record IsFound (g : KoreSignature) (cs : List (List Literal)) (o : Solvable) : Type 0 where
-  clause : List Literal
-  stands : IsAt o.place cs clause
-  gives : equation_of g clause ≡ Some o.equation
-
-found_if : (g : KoreSignature) (s : SymbolicState) (others before cs : List (List Literal)) (c : List Literal) (d : Option Equation) (o : Solvable) → equation_of g c ≡ d → solvable_if s others (length before) d ≡ Some o → IsFound g (before ++ c ∷ cs) o
-found_if g s others before cs c None o i q = absurd (cc)
-found_if g s others before cs c (Some e) o i q = by (stands_elsewhere s others e) q
-  where
-    by : (b : Bool) → (if b then Some (record { place = length before; equation = e }) else None) ≡ Some o → IsFound g (before ++ c ∷ cs) o
-    by true k = let same : record { place = length before; equation = e } ≡ o = cc in subst (IsFound g (before ++ c ∷ cs)) same (record { clause = c; stands = at_length before cs c; gives = i })
-    by false k = absurd (cc)
-
-found_first : (g : KoreSignature) (cs : List (List Literal)) (p q : Option Solvable) (o : Solvable) → ((d : Solvable) → p ≡ Some d → IsFound g cs d) → ((d : Solvable) → q ≡ Some d → IsFound g cs d) → first_of_two p q ≡ Some o → IsFound g cs o
-found_first g cs (Some d) q o i j e = i o e
-found_first g cs None q o i j e = j o e
-
-found_among : (g : KoreSignature) (s : SymbolicState) (before cs : List (List Literal)) (o : Solvable) → first_solvable_among g s before cs ≡ Some o → IsFound g (before ++ cs) o
-found_among g s before [] o e = absurd (cc)
-found_among g s before (c ∷ cs) o e = found_first g (before ++ c ∷ cs) (solvable_if s (before ++ cs) (length before) (equation_of g c)) (first_solvable_among g s (before ++ c ∷ []) cs) o
-    (λ d q. found_if g s (before ++ cs) before cs c (equation_of g c) d refl q)
-    (λ d q. subst (λ zs. IsFound g zs d) (append_assoc before (c ∷ []) cs) (found_among g s (before ++ c ∷ []) cs d q)) e
-
-found_in : (g : KoreSignature) (s : SymbolicState) (o : Solvable) → first_solvable g s ≡ Some o → IsFound g s.clauses o
-found_in g s o e = by (nat_le (literals_in s.clauses) most_solved) e
-  where
-    by : (b : Bool) → (if b then first_solvable_among g s [] s.clauses else None) ≡ Some o → IsFound g s.clauses o
-    by true q = found_among g s [] s.clauses o q
-    by false q = absurd (cc)
-
 first_ready : (g : KoreSignature) (v : Valuation) (sort : KoreSort) (e : Equation) (c : List Literal) (l : Literal) → AreReady g v sort e c → c ≡ l ∷ [] → IsReadyAtom g v sort e l.atom
 first_ready g v sort e c l h q = (subst (AreReady g v sort e) q h).0
 
@@ -243,10 +187,10 @@ solved_clauses_say g v s o q h =
     let e = o.equation in
     let ds = solved_clauses g s.sort e 0 (Some o.place) s.clauses in
     let f = found_in g s o q in
-    let c = ready_at (AreReady g v s.sort e) o.place s.clauses f.clause h f.stands in
+    let c = at_place (AreReady g v s.sort e) o.place s.clauses f.clause h f.stands in
     let met : IsClauseTrue g v f.clause → IsMet g v e = λ t. met_clause g v f.clause e (λ l i. let k = first_ready g v s.sort e f.clause l c i in (k.sorted, k.gives)) t f.gives in (
-      (λ a. let m = met (true_at g v o.place s.clauses f.clause a f.stands) in (m, (once_says g v ds).1 ((clauses_solved g v s.sort e 0 (Some o.place) s.clauses m h).1 a))),
-      (λ a. let b = (once_says g v ds).0 a in let m = met (kept_at g v s.sort e 0 o.place s.clauses f.clause b f.stands) in (m, (clauses_solved g v s.sort e 0 (Some o.place) s.clauses m h).0 b)),
+      (λ a. let m = met (at_place (IsClauseTrue g v) o.place s.clauses f.clause a f.stands) in (m, (once_says g v ds).1 ((clauses_solved g v s.sort e 0 (Some o.place) s.clauses m h).1 a))),
+      (λ a. let b = (once_says g v ds).0 a in let m = met (at_place_still g (IsClauseTrue g v) s.sort e 0 o.place s.clauses f.clause b f.stands) in (m, (clauses_solved g v s.sort e 0 (Some o.place) s.clauses m h).0 b)),
     )
 
 pub solved_instance : (g : KoreSignature) (v : Valuation) (s : SymbolicState) (o : Solvable) (u : Value) → first_solvable g s ≡ Some o → AllByRecursion (AllByRecursion (λ l. IsReadyAtom g v s.sort o.equation l.atom)) s.clauses → IsWellSorted g s.sort s.term → AreGiven g (replacement o.equation) v (term_variables s.term)

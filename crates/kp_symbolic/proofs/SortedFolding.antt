@@ -1,5 +1,5 @@
 -- A folded term is well-sorted, and so is one with terms in the place of its variables.
-use Rattle.std.proofs.Common.{◌≡◌, refl, sym, ◌∙◌, ap, subst, ◌⊎◌, inl, inr, ℤ, pos, negsuc, neg_ℤ, ◌+ℤ◌, ℕ, ◌+◌, ◌-◌, ◌^◌, ◌<◌, ◌≤◌, Bool, true, false, not, ◌&&◌, ◌||◌, cond, List, length, Option, Some, None, nat_le, arith}
+use Rattle.std.proofs.Common.{◌≡◌, refl, sym, ◌∙◌, ap, subst, ◌⊎◌, inl, inr, ℤ, pos, negsuc, neg_ℤ, ◌+ℤ◌, ℕ, ◌+◌, ◌-◌, ◌^◌, ◌<◌, ◌≤◌, Bool, true, false, not, ◌&&◌, cond, List, length, Option, Some, None, nat_le, arith}
 use Rattle.std.specs.Prelude.{if◌then◌else◌, is_some, int_lt, FitsSigned, ◌==◌, codes}
 use Rattle.std.specs.Int.{w128}
 use Rattle.std.specs.Ordering.{int_eq}
@@ -7,10 +7,10 @@ use Rattle.std.specs.Str.{bytes_eq}
 use Rattle.std.specs.Str.Parse.{signed_digits_value}
 use Rattle.std.proofs.lemmas.Bool.{leb-true}
 use Rattle.std.proofs.lemmas.Bool.Decides.{Decides-ltb, Decides-eqb}
-use Rattle.kp_kore.specs.Syntax.{Text, KoreSort, KoreSorts, no_sorts, next_sort, KorePattern, KorePatterns, variable, literal, application, no_patterns, next_pattern, SymbolDeclaration, AliasDeclaration}
+use Rattle.kp_kore.specs.Syntax.{Text, KoreSort, KoreSorts, no_sorts, next_sort, KorePattern, KorePatterns, variable, literal, application, no_patterns, next_pattern, SymbolDeclaration}
 use Rattle.kp_kore.specs.Hooks.{Arithmetic, addition, subtraction, Hook, whole_arithmetic, whole_comparison, truth_connective, truth_negation, values_equal, values_different}
 use Rattle.kp_kore.specs.Parts.{SortedName, is_term, are_terms, free_variables, all_free_variables, sort_list, pattern_list}
-use Rattle.kp_kore.specs.Signature.{KoreSignature, SymbolMeaning, injection, construction, interpretation, foreign, meaning_of, symbol_declared, alias_declared, is_injection, is_identity, is_constructor, is_plain, fitting_hook, fits_hook, are_two, are_one, is_integer_sort, is_boolean_sort, is_number_sort, is_truth_sort, IsBelow, is_below, itself}
+use Rattle.kp_kore.specs.Signature.{KoreSignature, SymbolMeaning, injection, construction, interpretation, foreign, meaning_of, symbol_declared, alias_declared, is_injection, is_identity, is_constructor, is_plain, fitting_hook, fits_hook, are_two, are_one, is_integer_sort, is_boolean_sort, is_number_sort, is_truth_sort, IsBelow, itself}
 use Rattle.kp_kore.specs.Sorting.{at_arguments, all_at_arguments, result_sort}
 use Rattle.kp_kore.specs.Value.{Value, whole, truth, token, Values, no_values, next_value, HasSort, HaveSorts}
 use Rattle.kp_kore.specs.Interpretation.{interpreted, no_meaning}
@@ -19,16 +19,15 @@ use Rattle.kp_kore.specs.Limits.{fits_number}
 use Rattle.kp_kore.specs.Foreign.{none_within, has_foreign_head, is_foreign_meaning}
 use Rattle.kp_kore.specs.Replies.{is_wide_value}
 use Rattle.kp_kore.proofs.InstanceLemmas.{first_true, second_true}
-use Rattle.kp_signature.specs.Places.{Place, own_sort, Profile, argument_sorts, argument_at, after}
-use Rattle.kp_signature.specs.Verify.{VerifyFault, first_fault, fault_at, arguments_fault, fault_unless, symbol_fault, injection_fault, wrong_number, sort_differs}
-use Rattle.kp_signature.proofs.Applied.{of_profile}
-use Rattle.kp_signature.proofs.Below.{is_below-Decides}
-use Rattle.kp_signature.proofs.FaultLemmas.{nothing_earlier, nothing_later, keeps_rules, no_fault_unless, term_has_wanted_sort}
-use Rattle.kp_signature.proofs.ApplicationLemmas.{as_many_arguments}
+use Rattle.kp_signature.specs.Places.{Place, own_sort, argument_sorts, argument_at, after}
+use Rattle.kp_signature.specs.Verify.{first_fault, fault_at, arguments_fault, symbol_fault, injection_fault}
+use Rattle.kp_signature.proofs.FaultLemmas.{nothing_earlier, nothing_later, keeps_rules, term_has_wanted_sort}
+use Rattle.kp_signature.proofs.ApplicationLemmas.{as_many_arguments, goes_upwards, as_many_sorts, sorts_by}
 use Rattle.kp_signature.proofs.InjLemmas.{inj_goes_across}
 use Rattle.kp_signature.proofs.MeaningLemmas.{an_injection, an_interpretation, it_fits}
 use Rattle.kp_signature.proofs.NumberLemmas.{number_value, truth_value}
 use Rattle.kp_signature.proofs.SortedInstances.{term_is_sorted, none_among, none_in_first, none_in_others, same_rest}
+use Rattle.kp_signature.proofs.OwnSorts.{profile_by, result_by}
 use Rattle.kp_compile.proofs.Literals.{whole_literal}
 use Rattle.kp_compile.specs.Spelled.{places_of, NumbersFit, AllNumbersFit}
 use Rattle.kp_symbolic.specs.Terms.{SymbolicTerm, unknown, offset, known, headed, SymbolicTerms, no_terms, next_term, term_variables, all_term_variables, Replaced, replacement_for}
@@ -147,39 +146,6 @@ pub applied_sorted : (g : KoreSignature) (f : Text) (ts : SymbolicTerms) (k : Is
 applied_sorted g f ts k i w = made_sorted g f ts k (meaning_of g f) refl i w
 
 -- ---- inj
-
-abbrev profile_by : Option SymbolDeclaration → Option AliasDeclaration → Option Profile
-profile_by (Some d) a = Some (record { parameters = d.parameters; arguments = d.arguments })
-profile_by None (Some a) = Some (record { parameters = a.parameters; arguments = a.arguments })
-profile_by None None = None
-
-abbrev sorts_by : KoreSorts → Option Profile → KoreSorts
-sorts_by ss (Some k) = all_at_arguments k.parameters ss k.arguments
-sorts_by ss None = no_sorts
-
-abbrev result_by : KoreSorts → Option SymbolDeclaration → Option AliasDeclaration → Option KoreSort
-result_by ss (Some d) a = Some (at_arguments d.parameters ss d.result)
-result_by ss None (Some a) = Some (at_arguments a.parameters ss a.result)
-result_by ss None None = None
-
-abbrev upwards_by : KoreSignature → KoreSort → KoreSort → Option SymbolDeclaration → Option VerifyFault
-upwards_by g a b (Some d) = fault_unless (not (is_injection d) || is_below g.subsorts a b) (sort_differs b a)
-upwards_by g a b None = None
-
-goes_upwards : (g : KoreSignature) (f : Text) (a b : KoreSort) (ps : KorePatterns) (d : SymbolDeclaration) → symbol_declared g f ≡ Some d → is_injection d ≡ true → injection_fault g (application f (next_sort a (next_sort b no_sorts)) ps) ≡ None → IsBelow g.subsorts a b
-goes_upwards g f a b ps d e inj h =
-    (is_below-Decides g.subsorts a b).0 (by (is_injection d) (is_below g.subsorts a b) inj (no_fault_unless (not (is_injection d) || is_below g.subsorts a b) (sort_differs b a) (sym (ap (upwards_by g a b) e) ∙ h)))
-  where
-    by : (i below : Bool) → i ≡ true → not i || below ≡ true → below ≡ true
-    by true below i t = t
-    by false below i t = absurd (cc)
-
-as_many_sorts : (g : KoreSignature) (f : Text) (ss : KoreSorts) (ps : KorePatterns) (d : SymbolDeclaration) → symbol_declared g f ≡ Some d → symbol_fault g (application f ss ps) ≡ None → length d.parameters ≡ length (sort_list ss)
-as_many_sorts g f ss ps d e h =
-    let test = length d.parameters == length (sort_list ss) in
-    let other = length (sort_list d.arguments) == length (pattern_list ps) in
-    (Decides-eqb (length d.parameters) (length (sort_list ss))).0
-    (first_true test other (no_fault_unless (test && other) (wrong_number f) (sym (ap (λ o. of_profile ss ps f (profile_by o (alias_declared g f))) e) ∙ h)))
 
 only_sorted : (g : KoreSignature) (a b : KoreSort) (ts : SymbolicTerms) → IsBelow g.subsorts a b → AreWellSorted g (next_sort a no_sorts) ts → IsWellSorted g b (only_term ts)
 only_sorted g a b no_terms i w = absurd w

@@ -1,6 +1,6 @@
 -- A well-sorted term's instance has its sort, and so have the arguments of each symbol in it.
 use Rattle.std.proofs.Common.{◌≡◌, refl, sym, ◌∙◌, ap, subst, ◌+ℤ◌, Bool, true, false, [], Option, Some, None}
-use Rattle.kp_kore.specs.Syntax.{Text, KoreSort, KoreSorts, no_sorts, next_sort, SymbolDeclaration, AliasDeclaration}
+use Rattle.kp_kore.specs.Syntax.{Text, KoreSort, KoreSorts, no_sorts, next_sort, SymbolDeclaration}
 use Rattle.kp_kore.specs.Hooks.{Hook, addition, whole_arithmetic}
 use Rattle.kp_kore.specs.Signature.{KoreSignature, SymbolMeaning, injection, construction, interpretation, foreign, meaning_of, symbol_declared, alias_declared, is_identity, is_constructor, is_plain, fitting_hook, integer_sort, is_integer_sort, has_only_numbers, is_number_sort, IsBelow, itself}
 use Rattle.kp_kore.specs.Sorting.{at_arguments, all_at_arguments, result_sort}
@@ -9,12 +9,14 @@ use Rattle.kp_kore.specs.Forms.{two}
 use Rattle.kp_kore.specs.Interpretation.{interpreted}
 use Rattle.kp_kore.specs.Instance.{Valuation, GivesSorts, applied}
 use Rattle.kp_kore.proofs.InstanceLemmas.{first_true}
-use Rattle.kp_signature.specs.Places.{Profile, argument_sorts}
+use Rattle.kp_signature.specs.Places.{argument_sorts}
 use Rattle.kp_signature.proofs.Below.{onwards}
 use Rattle.kp_signature.proofs.SortLemmas.{has_sort_above, at_no_arguments, all_at_no_arguments, is_that_sort}
 use Rattle.kp_signature.proofs.CallLemmas.{call_is_sorted}
 use Rattle.kp_signature.proofs.MeaningLemmas.{meaning_by_tests, an_interpretation, it_fits, no_parameters, constructor_is_plain}
 use Rattle.kp_signature.proofs.NumberLemmas.{number_value}
+use Rattle.kp_signature.proofs.ApplicationLemmas.{sorts_by}
+use Rattle.kp_signature.proofs.OwnSorts.{profile_by, result_by}
 use Rattle.kp_compile.specs.Spelled.{places_of}
 use Rattle.kp_symbolic.specs.Terms.{SymbolicTerm, unknown, offset, known, headed, SymbolicTerms, no_terms, next_term, term_instance, term_instances, term_variables, all_term_variables}
 use Rattle.kp_symbolic.specs.WellFormed.{stands_in_terms, IsWellSorted, AreWellSorted, IsGivenSorts, AreGivenSorts}
@@ -52,20 +54,6 @@ plain_symbol g f e = by (symbol_declared g f) refl
 abbrev places_by : Option SymbolDeclaration → KoreSorts
 places_by (Some d) = d.arguments
 places_by None = no_sorts
-
-abbrev result_by : KoreSorts → Option SymbolDeclaration → Option AliasDeclaration → Option KoreSort
-result_by ss (Some d) a = Some (at_arguments d.parameters ss d.result)
-result_by ss None (Some a) = Some (at_arguments a.parameters ss a.result)
-result_by ss None None = None
-
-abbrev profile_by : Option SymbolDeclaration → Option AliasDeclaration → Option Profile
-profile_by (Some d) a = Some (record { parameters = d.parameters; arguments = d.arguments })
-profile_by None (Some a) = Some (record { parameters = a.parameters; arguments = a.arguments })
-profile_by None None = None
-
-abbrev sorts_by : KoreSorts → Option Profile → KoreSorts
-sorts_by ss (Some k) = all_at_arguments k.parameters ss k.arguments
-sorts_by ss None = no_sorts
 
 pub places_are : (g : KoreSignature) (f : Text) (k : IsPlainSymbol g f) → places_of g f ≡ k.declaration.arguments
 places_are g f k = ap places_by k.declared

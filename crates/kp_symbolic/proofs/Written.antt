@@ -32,11 +32,11 @@ use Rattle.kp_symbolic.proofs.SortedFolding.{fits_signed}
 
 -- ---- inj is what it should be, or stands nowhere
 
-injects_left : (g : KoreSignature) (ps qs : List KorePattern) → InjectsWell g (ps ++ qs) → InjectsWell g ps
+pub injects_left : (g : KoreSignature) (ps qs : List KorePattern) → InjectsWell g (ps ++ qs) → InjectsWell g ps
 injects_left g ps qs (inl e) = inl e
 injects_left g ps qs (inr e) = inr (first_true (list_all (λ q. not (has_two_sorts q)) ps) (list_all (λ q. not (has_two_sorts q)) qs) (sym (list_all-append (λ q. not (has_two_sorts q)) ps qs) ∙ e))
 
-injects_right : (g : KoreSignature) (ps qs : List KorePattern) → InjectsWell g (ps ++ qs) → InjectsWell g qs
+pub injects_right : (g : KoreSignature) (ps qs : List KorePattern) → InjectsWell g (ps ++ qs) → InjectsWell g qs
 injects_right g ps qs (inl e) = inl e
 injects_right g ps qs (inr e) = inr (second_true (list_all (λ q. not (has_two_sorts q)) ps) (list_all (λ q. not (has_two_sorts q)) qs) (sym (list_all-append (λ q. not (has_two_sorts q)) ps qs) ∙ e))
 
@@ -47,7 +47,7 @@ placed_is g v u own s p false (inr e) h = absurd (cc)
 
 -- ---- sums
 
-one_sort : (s : KoreSort) (n : ℤ) (o : Option KoreSort) → o ≡ Some s → placed (unwrap_or o s) s (literal (unwrap_or o s) (signed_decimal n)) ≡ literal s (signed_decimal n)
+pub one_sort : (s : KoreSort) (n : ℤ) (o : Option KoreSort) → o ≡ Some s → placed (unwrap_or o s) s (literal (unwrap_or o s) (signed_decimal n)) ≡ literal s (signed_decimal n)
 one_sort s n o e = subst (λ x. placed (unwrap_or x s) s (literal (unwrap_or x s) (signed_decimal n)) ≡ literal s (signed_decimal n)) (sym e) (rw ((sorts_equal-Decides s s).1 refl) refl)
 
 number_is : (g : KoreSignature) (v : Valuation) (s : KoreSort) (n : ℤ) → integer_sort g ≡ Some s → FitsSigned w128 n → literal_value g s (signed_decimal n) ≡ whole n
@@ -101,7 +101,7 @@ signed_said g v sort false a i = ((λ n h. n (i.1 h)), (λ n h. n (i.0 h)))
 literal_said : (g : KoreSignature) (v : Valuation) (sort : KoreSort) (l : Literal) → IsSaid g v sort l.atom → IsTrueUnder g v (written_literal g sort l) ↔ IsLiteralTrue g v l
 literal_said g v sort l i = signed_said g v sort l.holds l.atom i
 
-abbrev turned : KoreSignature → Bool → Atom → Literal
+abbrev pub turned : KoreSignature → Bool → Atom → Literal
 turned g true (same s (unknown x) (unknown y)) = record { holds = true; atom = turned_if (is_second_solved g x y) s (unknown x) (unknown y) }
 turned g true (same s t (unknown y)) = record { holds = true; atom = turned_if (is_solved_by g y t) s t (unknown y) }
 turned g b a = record { holds = b; atom = a }

@@ -10,27 +10,25 @@ use Rattle.kp_kore.specs.Attributes.{sorts_equal}
 use Rattle.kp_kore.specs.Hooks.{addition, subtraction}
 use Rattle.kp_kore.specs.Limits.{fits_number}
 use Rattle.kp_kore.specs.Parts.{SortedName, free_variables, all_free_variables, subpatterns, all_subpatterns}
-use Rattle.kp_kore.specs.Signature.{KoreSignature, construction, meaning_of, integer_sort, boolean_sort, IsBelow, IsSortOfHead, constructor_of, itself}
+use Rattle.kp_kore.specs.Signature.{KoreSignature, construction, meaning_of, integer_sort, boolean_sort, IsSortOfHead, constructor_of, itself}
 use Rattle.kp_kore.specs.Sorting.{result_sort}
 use Rattle.kp_kore.specs.Value.{Value, whole, truth, token, constructed, Values, no_values, next_value, HasSort, HaveSorts, ArgumentSorts}
 use Rattle.kp_kore.specs.Interpretation.{no_meaning}
 use Rattle.kp_kore.specs.Instance.{Valuation, instance, literal_value}
 use Rattle.kp_kore.proofs.InstanceLemmas.{first_true, second_true}
 use Rattle.kp_kore.proofs.SameLemmas.{sorts_equal-Decides}
-use Rattle.kp_signature.proofs.Below.{is_below-Decides}
 use Rattle.kp_compile.specs.Spelled.{own_sort, placed, injected, places_of, spelling, spellings, truth_text, has_two_sorts, NumbersFit, AllNumbersFit}
 use Rattle.kp_compile.proofs.SpelledMeaning.{said}
 use Rattle.kp_symbolic.specs.Terms.{SymbolicTerm, unknown, offset, known, headed, SymbolicTerms, no_terms, next_term, term_variables, all_term_variables, Replaced, replacement_for}
-use Rattle.kp_symbolic.specs.WellFormed.{is_sort_below, IsWellSorted, AreWellSorted}
+use Rattle.kp_symbolic.specs.WellFormed.{IsWellSorted, AreWellSorted}
 use Rattle.kp_symbolic.specs.Folding.{least_symbol, with_first, value_known, values_known, made_construction, made, applied_term, term_for, folded, all_folded, under_symbol, replaced, all_replaced}
 use Rattle.kp_symbolic.specs.Writing.{written_call, written_sum, written_term, written_terms}
 use Rattle.kp_symbolic.proofs.Distribution.{all_both, all_first, all_second}
 use Rattle.kp_symbolic.proofs.WellSorted.{number_sort_is}
 use Rattle.kp_symbolic.proofs.SortedFolding.{fits_signed, replaced_sorted}
 use Rattle.kp_symbolic_laws.specs.Runs.{IsSoundTerm}
-use Rattle.kp_symbolic_laws.proofs.RightEquations.{value_at}
-use Rattle.kp_symbolic_laws.proofs.SoundTerms.{within_placed}
-use Rattle.kp_symbolic_laws.proofs.WrittenUnder.{written_is_term}
+use Rattle.kp_symbolic_laws.proofs.SoundTerms.{within_placed, within_sum}
+use Rattle.kp_symbolic_laws.proofs.WrittenUnder.{written_is_term, at_its_sort}
 
 -- ---- no symbol at two sorts
 
@@ -73,10 +71,6 @@ constructor_means g c own h = rw h.1 h.2
 
 declared_places : (g : KoreSignature) (c : Text) (ss : KoreSorts) → ArgumentSorts g c ss → ss ≡ places_of g c
 declared_places g c ss h = sym h.2 ∙ rw h.1 refl
-
--- a value that is written without inj has the sort of its place
-at_its_sort : (g : KoreSignature) (b : KoreSort) (u : Value) (o : Option KoreSort) (a k : KoreSort) → own_sort g u ≡ o → o ≡ Some k → unwrap_or o a ≡ a → HasSort g b u → HasSort g a u
-at_its_sort g b u o a k e f q h = value_at g b a u h (subst (λ z. is_sort_below g z a ≡ true) (sym (e ∙ f)) ((is_below-Decides g.subsorts k a).1 (subst (λ z. IsBelow g.subsorts k z) (ap (λ z. unwrap_or z a) (sym f) ∙ q) (itself k))))
 
 spelled_here : (g : KoreSignature) (a b : KoreSort) (u : Value) → Bare (subpatterns (spelling g a u)) → HasSort g b u → HasSort g a u
 spelled_here g a b (whole n) e h = at_its_sort g b (whole n) (integer_sort g) a h.0 refl h.1 (same_sort _ a _ e) h
@@ -153,17 +147,6 @@ mutual
       ap₂ next_term (written_folded g rs s s t (bare_left here others i) w.0) (all_written_folded g rs ss ts (bare_right here others i) w.1)
 
 -- ---- variables
-
-within_call : (Q : SortedName → Type 0) (o : Option Text) (x : SortedName) (n : ℤ) → AllByRecursion Q (free_variables (written_call o x n)) → Q x
-within_call Q (Some f) x n a = a.0
-within_call Q None x n a = a.0
-
-within_sum : (g : KoreSignature) (Q : SortedName → Type 0) (x : SortedName) (c : ℤ) → AllByRecursion Q (free_variables (written_sum g x c)) → Q x
-within_sum g Q x c = by (int_lt (pos 0) c)
-  where
-    by : (b : Bool) → AllByRecursion Q (free_variables (if b then written_call (least_symbol g addition) x c else written_call (least_symbol g subtraction) x (neg_ℤ c))) → Q x
-    by true a = within_call Q (least_symbol g addition) x c a
-    by false a = within_call Q (least_symbol g subtraction) x (neg_ℤ c) a
 
 mutual
   within_written : (g : KoreSignature) (Q : SortedName → Type 0) (a b : KoreSort) (t : SymbolicTerm) → IsWellSorted g b t → AllByRecursion Q (free_variables (written_term g a t)) → AllByRecursion Q (term_variables t)

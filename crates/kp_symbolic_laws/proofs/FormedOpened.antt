@@ -6,14 +6,14 @@ use Rattle.kp_kore.specs.Syntax.{Text, KoreSort, KoreSorts, no_sorts, next_sort,
 use Rattle.kp_kore.specs.Parts.{SortedName, is_term}
 use Rattle.kp_kore.specs.Signature.{KoreSignature, SymbolMeaning, injection, construction, interpretation, foreign, meaning_of}
 use Rattle.kp_kore.specs.Instance.{is_named, is_conjoined_pair}
-use Rattle.kp_symbolic.specs.Formulas.{Formula}
-use Rattle.kp_symbolic.specs.States.{HeadTest, one_head, head_of_sort, Literal}
+use Rattle.kp_symbolic.specs.States.{HeadTest, one_head, head_of_sort}
 use Rattle.kp_symbolic.specs.Alike.{literals_same}
 use Rattle.kp_symbolic.specs.Folding.{folded}
-use Rattle.kp_symbolic.specs.Opening.{literal_fact, are_variables, question_if, HeadQuestion, asked_constructor, asked_under_inj, asked_of, head_question, opened_test, quotation, opened_ceil, opened_leaf, opened_predicate}
+use Rattle.kp_symbolic.specs.Opening.{literal_fact, are_variables, question_if, HeadQuestion, asked_constructor, asked_under_inj, asked_of, head_question, quotation, opened_ceil, opened_leaf, opened_predicate}
 use Rattle.kp_symbolic.specs.Clauses.{distributed, without_repeats, is_too_large, quoted_literal, clauses_of_conjunct, literals_of_conjunct, clauses_of_conjuncts}
 use Rattle.kp_symbolic.proofs.Distribution.{all_both, kept_are}
 use Rattle.kp_symbolic.proofs.Facts.{AllFacts, clauses_have}
+use Rattle.kp_symbolic.proofs.Leaf.{asked_formula}
 use Rattle.kp_symbolic_laws.specs.Runs.{IsMeantTest}
 use Rattle.kp_symbolic_laws.specs.Safe.{Formed}
 use Rattle.kp_symbolic_laws.proofs.NormalTerms.{folded_normal}
@@ -53,7 +53,7 @@ unbound_meant : (g : KoreSignature) (b : Bool) (o : Option HeadQuestion) (q : He
 unbound_meant g true o q k e = absurd (none_is_some e)
 unbound_meant g false o q k e = k q e
 
-question_meant : (g : KoreSignature) (xs : List SortedName) (p : KorePattern) (q : HeadQuestion) → head_question g xs p ≡ Some q → IsMeantTest g q.test
+pub question_meant : (g : KoreSignature) (xs : List SortedName) (p : KorePattern) (q : HeadQuestion) → head_question g xs p ≡ Some q → IsMeantTest g q.test
 question_meant g xs (exists s x t p) q e = question_meant g (xs ++ record { name = x; sort = t } ∷ []) p q e
 question_meant g xs (equals a s (variable y t) (application f ss ps)) q e =
     unbound_meant g (is_named y xs) (asked_of g xs (variable y t) (meaning_of g f) f ss ps) q (λ k i. of_meant g xs (variable y t) (meaning_of g f) f ss ps k refl i) e
@@ -64,11 +64,7 @@ question_meant g xs p q e = absurd (none_is_some e)
 quotation_formed : (g : KoreSignature) (V : KorePattern → Type 0) (b : Bool) (p : KorePattern) → V p → AllFacts (Formed g V) (literal_fact b (quotation [] p))
 quotation_formed g V b p v = (v, tt)
 
-abbrev asked_formula : KoreSignature → Bool → KorePattern → Option HeadQuestion → Formula Literal
-asked_formula g b p (Some q) = opened_test g b q.test (literal_fact b (quotation [] p)) (folded g [] q.subject)
-asked_formula g b p None = literal_fact b (quotation [] p)
-
-question_formed : (g : KoreSignature) (V : KorePattern → Type 0) (b : Bool) (p : KorePattern) (o : Option HeadQuestion) → head_question g [] p ≡ o → V p → AllFacts (Formed g V) (asked_formula g b p o)
+question_formed : (g : KoreSignature) (V : KorePattern → Type 0) (b : Bool) (p : KorePattern) (o : Option HeadQuestion) → head_question g [] p ≡ o → V p → AllFacts (Formed g V) (asked_formula g [] b p o)
 question_formed g V b p None e v = quotation_formed g V b p v
 question_formed g V b p (Some q) e v = test_formed g V b q.test (literal_fact b (quotation [] p)) (folded g [] q.subject) (question_meant g [] p q e) (quotation_formed g V b p v)
 

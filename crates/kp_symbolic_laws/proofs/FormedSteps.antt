@@ -30,7 +30,7 @@ use Rattle.kp_symbolic_laws.proofs.FormedFacts.{same_formed, test_formed}
 use Rattle.kp_symbolic_laws.proofs.FormedEquations.{normal_clause}
 use Rattle.kp_symbolic_laws.proofs.FormedOpened.{OfAmong, predicates_formed}
 use Rattle.kp_symbolic_laws.proofs.Keeping.{put_into, by_case, whole_of_all, whole_also}
-use Rattle.kp_symbolic_laws.proofs.Found.{at_place, found_in}
+use Rattle.kp_symbolic.proofs.Found.{at_place, found_in}
 use Rattle.kp_symbolic_laws.proofs.Course.{step_sorted}
 use Rattle.kp_symbolic_laws.proofs.ReadState.{IsMember, members, both_read, opened_sorted}
 use Rattle.kp_symbolic_laws.proofs.WrittenForms.{clause_predicate}

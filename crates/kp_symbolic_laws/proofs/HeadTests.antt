@@ -17,10 +17,11 @@ use Rattle.kp_compile.proofs.SpelledMeaning.{InjectsWell}
 use Rattle.kp_symbolic.specs.States.{HeadTest, one_head, head_of_sort, has_head, PassesHead}
 use Rattle.kp_symbolic.specs.Opening.{are_variables, HeadQuestion, head_question}
 use Rattle.kp_symbolic.specs.Writing.{least_fresh, new_variables, under_exists, variables_of, written_test, IsSaid}
-use Rattle.kp_symbolic.proofs.HeadQuestions.{bound_of, body_of, question_of_body, question_says}
-use Rattle.kp_symbolic_laws.proofs.OpenedGood.{all_weaker, turned_test}
+use Rattle.kp_symbolic.proofs.HeadQuestions.{bound_of, body_of, question_of_body, question_says, all_weaker}
+use Rattle.kp_symbolic.proofs.Written.{injects_right}
+use Rattle.kp_symbolic_laws.proofs.OpenedGood.{turned_test}
 use Rattle.kp_symbolic_laws.proofs.NewNames.{new_apart, new_are_variables}
-use Rattle.kp_symbolic_laws.proofs.WrittenUnder.{Well, well_right, well_behind}
+use Rattle.kp_symbolic_laws.proofs.WrittenUnder.{Well, well_behind}
 
 -- ---- free variables
 
@@ -110,7 +111,7 @@ exists_well g sort [] p j = j
 exists_well g sort (x ∷ xs) p j = exists_well g sort xs p (well_behind g (exists sort x.name x.sort (under_exists sort xs p)) (subpatterns (under_exists sort xs p)) j)
 
 right_well : (g : KoreSignature) (a sort : KoreSort) (q r : KorePattern) → Well g (equals a sort q r) → Well g r
-right_well g a sort q r j = well_right g (subpatterns q) (subpatterns r) (well_behind g (equals a sort q r) (subpatterns q ++ subpatterns r) j)
+right_well g a sort q r j = injects_right g (subpatterns q) (subpatterns r) (well_behind g (equals a sort q r) (subpatterns q ++ subpatterns r) j)
 
 pub constructor_read : (g : KoreSignature) (sort : KoreSort) (x : SortedName) (c : Text) → Well g (written_test g sort x (one_head c)) → meaning_of g c ≡ construction → 1 + length (sort_list (places_of g c)) < 2 ^ 64 → head_question g [] (written_test g sort x (one_head c)) ≡ Some (question x (one_head c))
 constructor_read g sort x c i m b =

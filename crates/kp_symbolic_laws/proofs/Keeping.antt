@@ -5,9 +5,9 @@ use Rattle.std.specs.Bool.{beq}
 use Rattle.std.specs.List.{AllByRecursion, Contains, flat_map}
 use Rattle.std.specs.Str.{bytes_eq}
 use Rattle.std.proofs.lemmas.Slice.Eq.{bytes_eq-Decides}
-use Rattle.kp_kore.specs.Syntax.{Text, KoreSort}
+use Rattle.kp_kore.specs.Syntax.{KoreSort}
 use Rattle.kp_kore.specs.Parts.{SortedName, free_variables}
-use Rattle.kp_kore.specs.Signature.{KoreSignature, SymbolMeaning, injection, construction, interpretation, foreign, meaning_of, constructor_of, integers, itself}
+use Rattle.kp_kore.specs.Signature.{KoreSignature, meaning_of, integers, itself}
 use Rattle.kp_kore.specs.Value.{head_of}
 use Rattle.kp_kore.specs.Instance.{is_named}
 use Rattle.kp_symbolic.specs.Terms.{SymbolicTerm, unknown, offset, known, headed, term_variables, Replaced, replacement_for}
@@ -16,7 +16,7 @@ use Rattle.kp_symbolic.specs.States.{HeadTest, Atom, same, has_head, quoted, ato
 use Rattle.kp_symbolic.specs.WellFormed.{IsWellSorted, IsWellSortedAtom, AreWellPlaced, AreAtHand}
 use Rattle.kp_symbolic.specs.Folding.{term_for, replaced}
 use Rattle.kp_symbolic.specs.Heads.{passes_head, head_answer}
-use Rattle.kp_symbolic.specs.Opening.{fixed, literal_fact, fixed_or, head_of_call, opened_test}
+use Rattle.kp_symbolic.specs.Opening.{fixed, literal_fact, opened_test}
 use Rattle.kp_symbolic.specs.Clauses.{distributed, is_too_large}
 use Rattle.kp_symbolic.specs.Writing.{written_clause}
 use Rattle.kp_symbolic.specs.Solving.{Equation, replacement, opened_with, all_opened_with, is_single, opened_clause, solved_clause, literals_in, solved_clauses}
@@ -25,7 +25,8 @@ use Rattle.kp_symbolic.proofs.Folded.{OfEach}
 use Rattle.kp_symbolic.proofs.Replacing.{replaced_variables}
 use Rattle.kp_symbolic.proofs.WellSorted.{sorted_written}
 use Rattle.kp_symbolic.proofs.SortedFolding.{replaced_sorted}
-use Rattle.kp_symbolic.proofs.Facts.{AllFacts, AllIn, clauses_have, Good, GoodTerm, opened_same_good}
+use Rattle.kp_symbolic.proofs.Facts.{AllFacts, AllIn, clauses_have, Good, GoodTerm, opened_same_good, fixed_or_good}
+use Rattle.kp_symbolic.proofs.KeptFacts.{test_by}
 use Rattle.kp_symbolic_laws.specs.Runs.{HasOneSortEach, kept_whole, IfKeptWhole, OfKeptWhole}
 use Rattle.kp_symbolic_laws.proofs.RightEquations.{IsRightEquation}
 
@@ -61,23 +62,8 @@ fixed_good : (P : Literal → Type 0) (b : Bool) → AllFacts P (fixed b)
 fixed_good P true = tt
 fixed_good P false = tt
 
-answered_good : (P : Literal → Type 0) (o : Option Bool) (b : Bool) (f : Formula Literal) → AllFacts P f → AllFacts P (fixed_or o b f)
-answered_good P (Some c) b f a = fixed_good P (beq c b)
-answered_good P None b f a = a
-
-abbrev opened_by : KoreSignature → Bool → HeadTest → Formula Literal → Text → SymbolMeaning → Formula Literal
-opened_by g b test kept f construction = fixed (beq (passes_head g test (constructor_of f)) b)
-opened_by g b test kept f (interpretation h) = fixed (beq (passes_head g test (head_of_call h)) b)
-opened_by g b test kept f m = kept
-
-test_by : (g : KoreSignature) (P : Literal → Type 0) (b : Bool) (test : HeadTest) (kept : Formula Literal) (f : Text) (m : SymbolMeaning) → AllFacts P kept → AllFacts P (opened_by g b test kept f m)
-test_by g P b test kept f construction k = fixed_good P (beq (passes_head g test (constructor_of f)) b)
-test_by g P b test kept f (interpretation h) k = fixed_good P (beq (passes_head g test (head_of_call h)) b)
-test_by g P b test kept f injection k = k
-test_by g P b test kept f foreign k = k
-
 pub test_good : (g : KoreSignature) (hand : List SortedName) (b : Bool) (test : HeadTest) (kept : Formula Literal) (t : SymbolicTerm) → AllFacts (Good g hand) kept → AreAtHand (term_variables t) hand → AllFacts (Good g hand) (opened_test g b test kept t)
-test_good g hand b test kept (unknown x) k a = answered_good (Good g hand) (head_answer g x.sort test) b (literal_fact b (has_head x test)) (tt, (a.0, tt))
+test_good g hand b test kept (unknown x) k a = fixed_or_good (Good g hand) (head_answer g x.sort test) b (literal_fact b (has_head x test)) (tt, (a.0, tt))
 test_good g hand b test kept (offset x c) k a = fixed_good (Good g hand) (beq (passes_head g test integers) b)
 test_good g hand b test kept (known u) k a = fixed_good (Good g hand) (beq (passes_head g test (head_of u)) b)
 test_good g hand b test kept (headed f ts) k a = test_by g (Good g hand) b test kept f (meaning_of g f) k

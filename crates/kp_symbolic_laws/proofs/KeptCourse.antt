@@ -7,18 +7,17 @@ use Rattle.kp_kore.specs.Instance.{Valuation, GivesSorts, is_predicate, conjoine
 use Rattle.kp_kore.specs.Foreign.{none_within, has_foreign_head}
 use Rattle.kp_signature.specs.Places.{Place}
 use Rattle.kp_signature.specs.Verify.{first_fault}
-use Rattle.kp_symbolic.specs.States.{Atom, same, has_head, quoted, Literal, SymbolicState, HasInstancesOf}
+use Rattle.kp_symbolic.specs.States.{Literal, SymbolicState, HasInstancesOf}
 use Rattle.kp_symbolic.specs.Writing.{written_clause}
 use Rattle.kp_symbolic.specs.Solving.{Solvable, first_solvable, solved_at, Solving, finished, goes_on, IsReadAs}
 use Rattle.kp_symbolic.proofs.Facts.{Good}
-use Rattle.kp_symbolic_laws.specs.Runs.{ComesBy, begins, goes_by, OfKeptAt, OfEachKept, HasRoomClause, IsSoundAtom, IsSoundState, IsWrittenAtom, AreWrittenAtoms, IsWrittenOfThese, IsWrittenRight}
-use Rattle.kp_symbolic_laws.specs.Safe.{Formed, IsFormed, IsSafe, IsSoundQuote}
-use Rattle.kp_symbolic_laws.proofs.FormedSteps.{step_formed, opened_formed}
+use Rattle.kp_symbolic_laws.specs.Runs.{ComesBy, begins, goes_by, OfKeptAt, OfEachKept, HasRoomClause, IsSoundState, AreWrittenAtoms, IsWrittenOfThese, IsWrittenRight}
+use Rattle.kp_symbolic_laws.specs.Safe.{Formed, IsSafe, IsSoundQuote}
+use Rattle.kp_symbolic_laws.proofs.FormedSteps.{step_formed}
 use Rattle.kp_symbolic_laws.proofs.Keeping.{whole_also}
 use Rattle.kp_symbolic_laws.proofs.Course.{step_sorted}
-use Rattle.kp_symbolic_laws.proofs.ReadState.{opened_sorted, opened_to, read_instances}
-use Rattle.kp_symbolic_laws.proofs.Sound.{sound}
-use Rattle.kp_symbolic_laws.proofs.SoundCourse.{safe_sound}
+use Rattle.kp_symbolic_laws.proofs.ReadState.{opened_to, read_instances}
+use Rattle.kp_symbolic_laws.proofs.SoundCourse.{safe_sound, opened_safe, written_atoms, zipped, sound_atom, Both}
 use Rattle.kp_symbolic_laws.proofs.SoundWritten.{IsReady, clause_sound}
 use Rattle.kp_symbolic_laws.proofs.WrittenCourse.{here}
 use Rattle.kp_symbolic_laws.proofs.WrittenForms.{clause_predicate}
@@ -27,26 +26,9 @@ use Rattle.kp_symbolic_laws.specs.Kept.{CanBeWritten}
 
 -- ---- clauses
 
-sound_atom : (g : KoreSignature) (a : Atom) → IsFormed g (IsSoundQuote g) a → IsSoundAtom g a
-sound_atom g (same s t u) h = tt
-sound_atom g (has_head x test) h = h
-sound_atom g (quoted p rs) h = h.0
-
-written_atoms : (g : KoreSignature) (c : List Literal) → AllByRecursion (Formed g (IsSoundQuote g)) c → HasRoomClause g c → AllByRecursion (λ l. IsWrittenAtom g l.atom) c
-written_atoms g [] h m = tt
-written_atoms g (l ∷ c) h m = ((sound_atom g l.atom h.0, m.0), written_atoms g c h.1 m.1)
-
--- well-sorted literals at hand, in normal form
-abbrev Both : KoreSignature → SymbolicState → List Literal → Type 0
-Both g s c = AllByRecursion (Good g s.variables) c × AllByRecursion (Formed g (IsSoundQuote g)) c
-
 ready : (g : KoreSignature) (s : SymbolicState) (c : List Literal) → Both g s c → HasRoomClause g c → AllByRecursion (λ l. IsReady g l.atom) c
 ready g s [] b m = tt
 ready g s (l ∷ c) b m = ((b.0.0.0, sound_atom g l.atom b.1.0, m.0), ready g s c (b.0.1, b.1.1) m.1)
-
-zipped : (P Q : List Literal → Type 0) (cs : List (List Literal)) → AllByRecursion P cs → AllByRecursion Q cs → AllByRecursion (λ c. P c × Q c) cs
-zipped P Q [] a b = tt
-zipped P Q (c ∷ cs) a b = ((a.0, b.0), zipped P Q cs a.1 b.1)
 
 -- ---- one step
 
@@ -86,12 +68,6 @@ each_right g v s k h w x p (goes_by _ _ r e d) q = each_right g v (solved_at g r
 pub solving_safe : (g : KoreSignature) (s t : SymbolicState) → IsSafe g s → OfEachKept g (CanBeWritten g) s → Solving g s t → IsSafe g t
 solving_safe g s _ k w (finished _ q) = k
 solving_safe g s t k w (goes_on _ _ o q r) = solving_safe g (solved_at g o s) t (step_safe g s o k q (w s o (begins s) q)) (λ y n l f. w y n (goes_by s y o q l) f) r
-
-opened_safe : (g : KoreSignature) (c : Place) (p : KorePattern) (s : SymbolicState) → first_fault g c p ≡ None → none_within (has_foreign_head g) p ≡ true → AllByRecursion (λ q. is_predicate q ≡ true) (conjoined_predicates p) → (r : IsReadAs g p s) → IsSafe g r.opened
-opened_safe g c p s e k b r = record {
-  sorted = opened_sorted g c p r.opened e k b r.is_opened;
-  formed = opened_formed g (IsSoundQuote g) c p r.opened (λ q h. (h.predicate, sound g q h.stands h.predicate)) e k b r.is_opened;
-}
 
 pub read_kept : (g : KoreSignature) (c : Place) (p : KorePattern) (s : SymbolicState) → first_fault g c p ≡ None → none_within (has_foreign_head g) p ≡ true → AllByRecursion (λ q. is_predicate q ≡ true) (conjoined_predicates p)
     → (r : IsReadAs g p s) → OfEachKept g (CanBeWritten g) r.opened → IsSoundState g s × HasInstancesOf g p s

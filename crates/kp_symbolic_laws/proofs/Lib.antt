@@ -7,7 +7,6 @@ pub mod FormedEquations
 pub mod FormedFacts
 pub mod FormedOpened
 pub mod FormedSteps
-pub mod Found
 pub mod HeadTests
 pub mod Keeping
 pub mod KeptCourse

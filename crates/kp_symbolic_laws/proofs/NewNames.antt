@@ -17,7 +17,7 @@ use Rattle.kp_symbolic.proofs.NumericNames.{once_not_longer}
 
 -- ---- names of different numbers differ
 
-same_number : (n m : ℕ) → n < 10 ^ 64 → m < 10 ^ 64 → fresh_name n ≡ fresh_name m → n ≡ m
+pub same_number : (n m : ℕ) → n < 10 ^ 64 → m < 10 ^ 64 → fresh_name n ≡ fresh_name m → n ≡ m
 same_number n m h k e = sym (decimal_is_IsNumeral_wide n h).1 ∙ ap (λ t. digits_value 10 (drop 5 t)) e ∙ (decimal_is_IsNumeral_wide m k).1
 
 names_differ : (n m : ℕ) → n < m → m < 10 ^ 64 → bytes_eq (fresh_name n) (fresh_name m) ≡ false

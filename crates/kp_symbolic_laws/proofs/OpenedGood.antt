@@ -1,11 +1,11 @@
 -- Each literal that a verified predicate is opened to has the sorts of its places, and its variables are the predicate's.
 use Rattle.std.proofs.Common.{◌≡◌, refl, sym, ◌∙◌, ap, subst, ℕ, ◌+◌, Bool, true, false, not, ◌&&◌, ◌||◌, List, [], ◌∷◌, ◌++◌, Option, Some, None}
-use Rattle.std.specs.Prelude.{if◌then◌else◌, cond}
+use Rattle.std.specs.Prelude.{if◌then◌else◌}
 use Rattle.std.specs.List.{AllByRecursion, Contains, flat_map}
 use Rattle.std.specs.Str.{bytes_eq}
 use Rattle.std.proofs.lemmas.Slice.Eq.{bytes_eq-Decides}
 use Rattle.kp_kore.specs.Syntax.{Text, KoreSort, KoreSorts, no_sorts, next_sort, KorePattern, KorePatterns, variable, set_variable, application, string_literal, literal, top, bottom, negation, next, conjunction, disjunction, implication, equivalence, rewriting, exists, forall, ceil, floor, equals, membership, mu, nu, no_patterns, next_pattern}
-use Rattle.kp_kore.specs.Parts.{SortedName, is_term, free_variables, all_free_variables, without_name}
+use Rattle.kp_kore.specs.Parts.{SortedName, is_term, free_variables, all_free_variables}
 use Rattle.kp_kore.specs.Signature.{KoreSignature, SymbolMeaning, injection, construction, interpretation, foreign, meaning_of}
 use Rattle.kp_kore.specs.Instance.{is_named, is_predicate, are_predicates, is_conjoined_pair}
 use Rattle.kp_kore.specs.Foreign.{has_foreign_head}
@@ -19,15 +19,17 @@ use Rattle.kp_symbolic.specs.States.{HeadTest, head_of_sort, variables_for, Lite
 use Rattle.kp_symbolic.specs.WellFormed.{AreAtHand}
 use Rattle.kp_symbolic.specs.Alike.{literals_same}
 use Rattle.kp_symbolic.specs.Folding.{folded}
-use Rattle.kp_symbolic.specs.Opening.{all_if, Leaf, literal_fact, opened, all_opened, is_left, are_variables, question_if, HeadQuestion, asked_constructor, asked_under_inj, asked_of, head_question, opened_same, opened_test, quotation, opened_ceil, opened_leaf, opened_predicate}
+use Rattle.kp_symbolic.specs.Opening.{all_if, Leaf, literal_fact, opened, all_opened, is_left, are_variables, question_if, HeadQuestion, asked_constructor, asked_under_inj, asked_of, head_question, opened_same, quotation, opened_ceil, opened_leaf, opened_predicate}
 use Rattle.kp_symbolic.specs.Clauses.{distributed, without_repeats, is_too_large, quoted_literal, clauses_of_conjunct, literals_of_conjunct, clauses_of_conjuncts}
 use Rattle.kp_symbolic.proofs.Distribution.{all_both, all_first, all_second, kept_are}
 use Rattle.kp_symbolic.proofs.Opened.{IsClosed}
 use Rattle.kp_symbolic.proofs.Folded.{folded_variables, OfEach}
 use Rattle.kp_symbolic.proofs.SortedFolding.{folded_sorted}
-use Rattle.kp_symbolic.proofs.Read.{Stands, StandAll, StandBoth, equals_stand, membership_stands, negation_stands, conjunction_stands, disjunction_stands, implication_stands, equivalence_stands, ceil_stands, floor_stands, first_stands, others_stand}
+use Rattle.kp_symbolic.proofs.Read.{Stands, StandAll, StandBoth, equals_stand, membership_stands, negation_stands, conjunction_stands, disjunction_stands, implication_stands, equivalence_stands, ceil_stands, floor_stands, first_stands, others_stand, three_tests, two_tests}
 use Rattle.kp_symbolic.proofs.OpenedState.{placed_as_they_are}
 use Rattle.kp_symbolic.proofs.Facts.{AllFacts, AllIn, clauses_have, Good, GoodTerm, opened_same_good}
+use Rattle.kp_symbolic.proofs.Leaf.{asked_formula}
+use Rattle.kp_symbolic.proofs.HeadQuestions.{without_all, all_weaker}
 use Rattle.kp_symbolic_laws.proofs.Keeping.{test_good}
 
 -- ---- what holds of each literal of the leaf holds of each of the whole
@@ -91,17 +93,6 @@ pub record AreAmong (g : KoreSignature) (hand : List SortedName) (ps : KorePatte
   pub predicates : are_predicates ps ≡ true
   pub at_hand : AreAtHand (all_free_variables ps) hand
 
-three_tests : (a b c : Bool) → a || b || c ≡ true → a ≡ false → c ≡ false → b ≡ true
-three_tests a true c h e f = refl
-three_tests true false c h e f = absurd (cc)
-three_tests false false true h e f = absurd (cc)
-three_tests false false false h e f = absurd (cc)
-
-two_tests : (a b : Bool) → a || b ≡ true → a ≡ false → b ≡ true
-two_tests a true h e = refl
-two_tests true false h e = absurd (cc)
-two_tests false false h e = absurd (cc)
-
 abbrev At : List SortedName → SortedName → Type 0
 At hand x = Contains hand x
 
@@ -141,7 +132,7 @@ sides_have g hand alone b a p q k t i j = opened_same_good g hand alone b a (fol
     (term_has g hand a p k.first k.first_wanted (first_true (is_term p) (is_term q) t) i)
     (term_has g hand a q k.second k.second_wanted (second_true (is_term p) (is_term q) t) j)
 
-flat_itself : (hand xs : List SortedName) → AreAtHand xs hand → AreAtHand (flat_map (λ x. variables_for x (replacement_for [] x.name)) xs) hand
+pub flat_itself : (hand xs : List SortedName) → AreAtHand xs hand → AreAtHand (flat_map (λ x. variables_for x (replacement_for [] x.name)) xs) hand
 flat_itself hand [] a = tt
 flat_itself hand (x ∷ xs) a = (a.0, flat_itself hand xs a.1)
 
@@ -215,19 +206,6 @@ subject_unbound : (g : KoreSignature) (Q : SortedName → Type 0) (xs : List Sor
 subject_unbound g Q xs y true o q i h k e = absurd (none_is_some e)
 subject_unbound g Q xs y false o q i h k e = subst (λ p. AllByRecursion Q (free_variables p)) (sym (k q e)) (h i, tt)
 
--- what holds of each free variable holds of those under a binder that it doesn't bind
-pub without_all : (Q : SortedName → Type 0) (x : Text) (ys : List SortedName) → AllByRecursion Q (without_name x ys) → AllByRecursion (λ z. bytes_eq z.name x ≡ false → Q z) ys
-without_all Q x [] a = tt
-without_all Q x (y ∷ ys) a = by (bytes_eq y.name x) (without_all Q x ys) a
-  where
-    by : (b : Bool) → (AllByRecursion Q (without_name x ys) → AllByRecursion (λ z. bytes_eq z.name x ≡ false → Q z) ys) → AllByRecursion Q (cond (not b) (y ∷ without_name x ys) (without_name x ys)) → (b ≡ false → Q y) × AllByRecursion (λ z. bytes_eq z.name x ≡ false → Q z) ys
-    by true k a = ((λ f. absurd (cc)), k a)
-    by false k a = ((λ f. a.0), k a.1)
-
-pub all_weaker : (P Q : SortedName → Type 0) (xs : List SortedName) → ((x : SortedName) → P x → Q x) → AllByRecursion P xs → AllByRecursion Q xs
-all_weaker P Q [] f h = tt
-all_weaker P Q (x ∷ xs) f h = (f x h.0, all_weaker P Q xs f h.1)
-
 named_either : (x : SortedName) (before : List SortedName) (y : Text) → is_named y (before ++ x ∷ []) ≡ false → (is_named y before ≡ false) × (bytes_eq x.name y ≡ false)
 named_either x [] y e = (refl, (either_false (bytes_eq x.name y) false e).0)
 named_either x (z ∷ before) y e =
@@ -246,7 +224,7 @@ turned_test x y h = by (bytes_eq y x) refl
     by true e = absurd (cc (sym h ∙ (bytes_eq-Decides x y).1 (sym ((bytes_eq-Decides y x).0 e))))
     by false e = e
 
-subject_has : (g : KoreSignature) (Q : SortedName → Type 0) (xs : List SortedName) (p : KorePattern) (q : HeadQuestion) → head_question g xs p ≡ Some q → AllByRecursion (λ z. is_named z.name xs ≡ false → Q z) (free_variables p) → AllByRecursion Q (free_variables q.subject)
+pub subject_has : (g : KoreSignature) (Q : SortedName → Type 0) (xs : List SortedName) (p : KorePattern) (q : HeadQuestion) → head_question g xs p ≡ Some q → AllByRecursion (λ z. is_named z.name xs ≡ false → Q z) (free_variables p) → AllByRecursion Q (free_variables q.subject)
 subject_has g Q xs (exists s x t p) q e a = subject_has g Q (xs ++ record { name = x; sort = t } ∷ []) p q e
     (all_weaker (λ z. bytes_eq z.name x ≡ false → is_named z.name xs ≡ false → Q z) (λ z. is_named z.name (xs ++ record { name = x; sort = t } ∷ []) ≡ false → Q z) (free_variables p)
     (λ z f n. let k = named_either (record { name = x; sort = t }) xs z.name n in f (turned_test x z.name k.1) k.0)
@@ -255,11 +233,7 @@ subject_has g Q xs (equals a s (variable y t) (application f ss ps)) q e h =
     subject_unbound g Q xs (record { name = y; sort = t }) (is_named y xs) (asked_of g xs (variable y t) (meaning_of g f) f ss ps) q refl h.0 (λ k i. of_subject g xs (variable y t) (meaning_of g f) f ss ps k i) e
 subject_has g Q xs p q e h = absurd (none_is_some e)
 
-abbrev asked_formula : KoreSignature → Bool → KorePattern → Option HeadQuestion → Formula Literal
-asked_formula g b p (Some q) = opened_test g b q.test (literal_fact b (quotation [] p)) (folded g [] q.subject)
-asked_formula g b p None = literal_fact b (quotation [] p)
-
-question_has : (g : KoreSignature) (hand : List SortedName) (b : Bool) (p : KorePattern) (o : Option HeadQuestion) → head_question g [] p ≡ o → AreAtHand (free_variables p) hand → AllFacts (Good g hand) (asked_formula g b p o)
+question_has : (g : KoreSignature) (hand : List SortedName) (b : Bool) (p : KorePattern) (o : Option HeadQuestion) → head_question g [] p ≡ o → AreAtHand (free_variables p) hand → AllFacts (Good g hand) (asked_formula g [] b p o)
 question_has g hand b p None e a = quotation_has g hand b p a
 question_has g hand b p (Some q) e a = test_good g hand b q.test (literal_fact b (quotation [] p)) (folded g [] q.subject) (quotation_has g hand b p a)
     (folded_variables g [] (At hand) q.subject (each_itself hand (free_variables q.subject) (subject_has g (At hand) [] p q e (all_weaker (At hand) (λ z. false ≡ false → At hand z) (free_variables p) (λ z c n. c) a))))

@@ -22,8 +22,11 @@ use Rattle.kp_symbolic.specs.Opening.{fixed, all_if, pair, literal_fact, is_true
 use Rattle.kp_symbolic.specs.Clauses.{distributed, without_repeats, is_too_large, quoted_literal, clauses_of_conjunct, literals_of_conjunct, clauses_of_conjuncts}
 use Rattle.kp_symbolic.proofs.Distribution.{all_both, kept_are}
 use Rattle.kp_symbolic.proofs.Facts.{AllFacts, AllIn, clauses_have}
+use Rattle.kp_symbolic.proofs.Leaf.{asked_formula}
+use Rattle.kp_symbolic.proofs.KeptFacts.{opened_by}
 use Rattle.kp_symbolic_laws.proofs.Settled.{IsSettledValue, AreSettledValues, IsSettled, AreSettled, ArePutSettled}
 use Rattle.kp_symbolic_laws.proofs.Fit.{IsFit, AreFit, Any, folded_settled}
+use Rattle.kp_symbolic_laws.proofs.OpenedGood.{by_size}
 
 -- ---- literals of settled terms
 
@@ -185,11 +188,6 @@ opened_same_settled g alone b s t u i j = seen_settled g alone b s (equality_fac
 
 -- ---- tests of heads
 
-abbrev opened_by : KoreSignature → Bool → HeadTest → Formula Literal → Text → SymbolMeaning → Formula Literal
-opened_by g b test kept f construction = fixed (beq (passes_head g test (constructor_of f)) b)
-opened_by g b test kept f (interpretation h) = fixed (beq (passes_head g test (head_of_call h)) b)
-opened_by g b test kept f m = kept
-
 test_by : (g : KoreSignature) (b : Bool) (test : HeadTest) (kept : Formula Literal) (f : Text) (m : SymbolMeaning) → IsSettledFormula g kept → IsSettledFormula g (opened_by g b test kept f m)
 test_by g b test kept f construction k = fixed_settled g (beq (passes_head g test (constructor_of f)) b)
 test_by g b test kept f (interpretation h) k = fixed_settled g (beq (passes_head g test (head_of_call h)) b)
@@ -254,10 +252,6 @@ ceil_settled : (g : KoreSignature) (rs : List Replaced) (alone b : Bool) (a : Ko
 ceil_settled g rs alone b a (conjunction s (next_pattern p (next_pattern q no_patterns))) h i = opened_same_settled g alone b a (folded g rs p) (folded g rs q) (folded_settled g rs p h i.0) (folded_settled g rs q h i.1.0)
 ceil_settled g rs alone b a p h i = fixed_settled g b
 
-abbrev asked_formula : KoreSignature → List Replaced → Bool → KorePattern → Option HeadQuestion → Formula Literal
-asked_formula g rs b p (Some q) = opened_test g b q.test (literal_fact b (quotation rs p)) (folded g rs q.subject)
-asked_formula g rs b p None = literal_fact b (quotation rs p)
-
 asked_formula_settled : (g : KoreSignature) (rs : List Replaced) (b : Bool) (p : KorePattern) (o : Option HeadQuestion) → ArePutSettled g rs → IsFit g Any p → IsSettledQuestion g o → IsSettledFormula g (asked_formula g rs b p o)
 asked_formula_settled g rs b p (Some q) a i j = opened_test_settled g b q.test (literal_fact b (quotation rs p)) (folded g rs q.subject) (quotation_settled g rs p a i) j.1
 asked_formula_settled g rs b p None a i j = quotation_settled g rs p a i
@@ -306,10 +300,6 @@ mutual
 quoted_settled : (g : KoreSignature) (rs : List Replaced) (b : Bool) (p : KorePattern) → ArePutSettled g rs → IsFit g Any p → IsSettledLiteral g (quoted_literal rs b p)
 quoted_settled g rs b (negation s p) h i = quoted_settled g rs (not b) p h i
 quoted_settled g rs b p h i = quotation_settled g rs p h i
-
-by_size : (P : List Literal → Type 0) (b : Bool) (cs ds : List (List Literal)) → AllByRecursion P cs → AllByRecursion P ds → AllByRecursion P (if b then cs else ds)
-by_size P true cs ds i j = i
-by_size P false cs ds i j = j
 
 conjunct_settled : (g : KoreSignature) (rs : List Replaced) (n : ℕ) (p : KorePattern) → ArePutSettled g rs → IsFit g Any p → AreSettledClauses g (clauses_of_conjunct g rs n p)
 conjunct_settled g rs n p h i = by_size (AllByRecursion (IsSettledLiteral g)) (is_too_large n (opened_predicate g rs true p)) ((quoted_literal rs true p ∷ []) ∷ []) (distributed (opened_predicate g rs true p))

@@ -112,13 +112,13 @@ read_is_settled g c p s e b r = solving_settled g r.opened s (opened_is_settled 
 
 -- ---- clauses whose literals stand in another order
 
-all_moved : {X : Type 0} (P : X → Type 0) (xs ys : List X) → IsPermutation xs ys → AllByRecursion P xs → AllByRecursion P ys
+pub all_moved : {X : Type 0} (P : X → Type 0) (xs ys : List X) → IsPermutation xs ys → AllByRecursion P xs → AllByRecursion P ys
 all_moved P xs ys moved all = recursion_from_All P ys (All-permutation P xs ys moved (All-from_recursion P xs all))
 
-at_member : {X : Type 0} (P : X → Type 0) (xs : List X) (x : X) → AllByRecursion P xs → Contains xs x → P x
+pub at_member : {X : Type 0} (P : X → Type 0) (xs : List X) (x : X) → AllByRecursion P xs → Contains xs x → P x
 at_member P xs x all there = All-contains P xs x (All-from_recursion P xs all) there
 
-of_members : {X : Type 0} (P : X → Type 0) (xs : List X) → ((x : X) → Contains xs x → P x) → AllByRecursion P xs
+pub of_members : {X : Type 0} (P : X → Type 0) (xs : List X) → ((x : X) → Contains xs x → P x) → AllByRecursion P xs
 of_members P xs each = recursion_from_All P xs (All-weaker (Contains xs) P each xs (All-contains_itself xs))
 
 reordered_settled : (g : KoreSignature) (s t : SymbolicState) → IsSettledState g s → t.term ≡ s.term → AreReordered s.clauses t.clauses → IsSettledState g t

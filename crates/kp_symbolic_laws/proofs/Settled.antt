@@ -22,6 +22,7 @@ use Rattle.kp_symbolic.specs.WellFormed.{stands_in_terms}
 use Rattle.kp_symbolic.proofs.Replacing.{least_is}
 use Rattle.kp_symbolic.proofs.WellSorted.{plain_symbol, places_are, number_sort_is}
 use Rattle.kp_symbolic.proofs.SortedFolding.{fits_signed, symbol_fits}
+use Rattle.kp_symbolic.proofs.NormalForm.{integer_at}
 
 -- ---- values and terms
 
@@ -101,13 +102,9 @@ sum_shape : (g : KoreSignature) (o : Option Sum) (c : ℤ) (call : SymbolicTerm)
 sum_shape g (Some m) c call i = at_constant g m.variable (m.constant +ℤ c) call (int_eq (m.constant +ℤ c) (pos 0)) (can_be_added g (m.constant +ℤ c)) (i m refl) refl
 sum_shape g None c call i = inl refl
 
-number_at : (g : KoreSignature) (x : SortedName) (c : ℤ) (m : Sum) (b : Bool) → is_number_sort g x.sort ≡ b → (if b then Some (record { variable = x; constant = c }) else None) ≡ Some m → is_number_sort g m.variable.sort ≡ true
-number_at g x c m true i e = let y : x ≡ m.variable = cc in subst (λ z. is_number_sort g z.sort ≡ true) y i
-number_at g x c m false i e = absurd (cc)
-
 number_sum : (g : KoreSignature) (t : SymbolicTerm) (m : Sum) → sum_of g t ≡ Some m → is_number_sort g m.variable.sort ≡ true
-number_sum g (unknown x) m e = number_at g x (pos 0) m (is_number_sort g x.sort) refl e
-number_sum g (offset x c) m e = number_at g x c m (is_number_sort g x.sort) refl e
+number_sum g (unknown x) m e = integer_at g x (pos 0) m (is_number_sort g x.sort) refl e
+number_sum g (offset x c) m e = integer_at g x c m (is_number_sort g x.sort) refl e
 number_sum g (known u) m e = absurd (cc)
 number_sum g (headed f ts) m e = absurd (cc)
 

@@ -12,12 +12,11 @@ use Rattle.kp_signature.specs.Verify.{fault_at, first_fault}
 use Rattle.kp_signature.proofs.FaultLemmas.{nothing_later, term_has_wanted_sort}
 use Rattle.kp_signature.proofs.OneSort.{agrees}
 use Rattle.kp_symbolic.proofs.SortedFolding.{folded_sorted}
-use Rattle.kp_symbolic.proofs.Read.{Stands, StandAll, StandBoth, equals_stand, membership_stands, negation_stands, conjunction_stands, disjunction_stands, implication_stands, equivalence_stands, ceil_stands, floor_stands, first_stands, others_stand}
+use Rattle.kp_symbolic.proofs.Read.{Stands, StandAll, StandBoth, equals_stand, membership_stands, negation_stands, conjunction_stands, disjunction_stands, implication_stands, equivalence_stands, ceil_stands, floor_stands, first_stands, others_stand, three_tests, two_tests}
 use Rattle.kp_symbolic.proofs.OpenedState.{placed_as_they_are}
 use Rattle.kp_symbolic_laws.specs.Runs.{IsSoundTerm, IsSoundPair, IsSoundPredicate, AreSoundPredicates}
 use Rattle.kp_symbolic_laws.proofs.Binders.{bound_sort}
 use Rattle.kp_symbolic_laws.proofs.OpenedGood.{pair_stands}
-use Rattle.kp_symbolic_laws.proofs.WrittenUnder.{three_tests, two_tests}
 
 sound_term : (g : KoreSignature) (a : KoreSort) (p : KorePattern) (h : Stands g [] p) → h.place.wanted ≡ Some a → is_term p ≡ true → IsSoundTerm g p
 sound_term g a p h w t = record {

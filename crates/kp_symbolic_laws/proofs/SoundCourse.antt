@@ -48,7 +48,7 @@ kept_done g P s e x p (goes_by _ _ l f d) q = absurd (none_either g s l e f)
 
 -- ---- literals that are written right
 
-sound_atom : (g : KoreSignature) (a : Atom) → IsFormed g (IsSoundQuote g) a → IsSoundAtom g a
+pub sound_atom : (g : KoreSignature) (a : Atom) → IsFormed g (IsSoundQuote g) a → IsSoundAtom g a
 sound_atom g (same s t u) h = tt
 sound_atom g (has_head x test) h = h
 sound_atom g (quoted p rs) h = h.0
@@ -61,18 +61,18 @@ sound_clauses : (g : KoreSignature) (cs : List (List Literal)) → AllByRecursio
 sound_clauses g [] h = tt
 sound_clauses g (c ∷ cs) h = (sound_literals g c h.0, sound_clauses g cs h.1)
 
-written_atoms : (g : KoreSignature) (c : List Literal) → AllByRecursion (Formed g (IsSoundQuote g)) c → HasRoomClause g c → AllByRecursion (λ l. IsWrittenAtom g l.atom) c
+pub written_atoms : (g : KoreSignature) (c : List Literal) → AllByRecursion (Formed g (IsSoundQuote g)) c → HasRoomClause g c → AllByRecursion (λ l. IsWrittenAtom g l.atom) c
 written_atoms g [] h m = tt
 written_atoms g (l ∷ c) h m = ((sound_atom g l.atom h.0, m.0), written_atoms g c h.1 m.1)
 
-abbrev Both : KoreSignature → SymbolicState → List Literal → Type 0
+abbrev pub Both : KoreSignature → SymbolicState → List Literal → Type 0
 Both g s c = AllByRecursion (Good g s.variables) c × AllByRecursion (Formed g (IsSoundQuote g)) c
 
 ready : (g : KoreSignature) (s : SymbolicState) (c : List Literal) → AllByRecursion (Good g s.variables) c → AllByRecursion (Formed g (IsSoundQuote g)) c → HasRoomClause g c → AllByRecursion (λ l. IsReady g l.atom) c
 ready g s [] w h m = tt
 ready g s (l ∷ c) w h m = ((w.0.0, sound_atom g l.atom h.0, m.0), ready g s c w.1 h.1 m.1)
 
-zipped : (P Q : List Literal → Type 0) (cs : List (List Literal)) → AllByRecursion P cs → AllByRecursion Q cs → AllByRecursion (λ c. P c × Q c) cs
+pub zipped : (P Q : List Literal → Type 0) (cs : List (List Literal)) → AllByRecursion P cs → AllByRecursion Q cs → AllByRecursion (λ c. P c × Q c) cs
 zipped P Q [] a b = tt
 zipped P Q (c ∷ cs) a b = ((a.0, b.0), zipped P Q cs a.1 b.1)
 
@@ -103,7 +103,7 @@ solving_safe g s t i k w (goes_on _ _ o q r) = solving_safe g (solved_at g o s) 
 pub safe_sound : (g : KoreSignature) (s : SymbolicState) → IsSafe g s → IsSoundState g s
 safe_sound g s k = record { sorted = k.sorted; sound = sound_clauses g s.clauses k.formed.literals }
 
-opened_safe : (g : KoreSignature) (c : Place) (p : KorePattern) (s : SymbolicState) → first_fault g c p ≡ None → none_within (has_foreign_head g) p ≡ true → AllByRecursion (λ q. is_predicate q ≡ true) (conjoined_predicates p) → (r : IsReadAs g p s) → IsSafe g r.opened
+pub opened_safe : (g : KoreSignature) (c : Place) (p : KorePattern) (s : SymbolicState) → first_fault g c p ≡ None → none_within (has_foreign_head g) p ≡ true → AllByRecursion (λ q. is_predicate q ≡ true) (conjoined_predicates p) → (r : IsReadAs g p s) → IsSafe g r.opened
 opened_safe g c p s e k b r = record {
   sorted = opened_sorted g c p r.opened e k b r.is_opened;
   formed = opened_formed g (IsSoundQuote g) c p r.opened (λ q h. (h.predicate, sound g q h.stands h.predicate)) e k b r.is_opened;

@@ -117,7 +117,7 @@ within_call : (Q : SortedName → Type 0) (o : Option Text) (x : SortedName) (n 
 within_call Q (Some f) x n a = a.0
 within_call Q None x n a = a.0
 
-within_sum : (g : KoreSignature) (Q : SortedName → Type 0) (x : SortedName) (c : ℤ) → AllByRecursion Q (free_variables (written_sum g x c)) → Q x
+pub within_sum : (g : KoreSignature) (Q : SortedName → Type 0) (x : SortedName) (c : ℤ) → AllByRecursion Q (free_variables (written_sum g x c)) → Q x
 within_sum g Q x c = by (int_lt (pos 0) c)
   where
     by : (b : Bool) → AllByRecursion Q (free_variables (if b then written_call (least_symbol g addition) x c else written_call (least_symbol g subtraction) x (neg_ℤ c))) → Q x

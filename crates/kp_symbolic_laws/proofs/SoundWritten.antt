@@ -20,13 +20,15 @@ use Rattle.kp_symbolic.proofs.Distribution.{all_first, all_second}
 use Rattle.kp_symbolic.proofs.Folded.{OfEach}
 use Rattle.kp_symbolic.proofs.WellSorted.{plain_symbol}
 use Rattle.kp_symbolic.proofs.SortedFolding.{applied_sorted}
+use Rattle.kp_symbolic.proofs.Written.{turned}
+use Rattle.kp_symbolic.proofs.Read.{three_tests, two_tests}
 use Rattle.kp_symbolic_laws.specs.Runs.{HasRoom, AllHaveRoom, HasRoomAtom, IsSoundTerm, IsSoundPair, IsOfOneSort, IsSoundPredicate, AreSoundPredicates, IsSoundAtom}
 use Rattle.kp_symbolic_laws.proofs.Binders.{other_way, bound_apart, IsApart, apart_first, apart_second, neither}
 use Rattle.kp_symbolic_laws.proofs.HeadTests.{placed_variables}
 use Rattle.kp_symbolic_laws.proofs.NewNames.{least_is_new, new_apart, holds_first}
 use Rattle.kp_symbolic_laws.proofs.BareTerms.{Bare, bare_left, bare_right, bare_folded, bare_sound}
 use Rattle.kp_symbolic_laws.proofs.SoundTerms.{stripped, within_placed, written_sound}
-use Rattle.kp_symbolic_laws.proofs.WrittenUnder.{IsInj, term_kept, pair_kept, placed_term, matched, unmatched, three_tests, two_tests, two_of_three}
+use Rattle.kp_symbolic_laws.proofs.WrittenUnder.{IsInj, term_kept, pair_kept, placed_term, matched, unmatched, two_of_three}
 use Rattle.kp_symbolic_laws.proofs.WrittenForms.{variables_are_terms}
 use Rattle.kp_symbolic_laws.proofs.WrittenVariables.{under_variables}
 
@@ -297,11 +299,6 @@ atom_sound g sort (quoted p rs) i r = under_sound g rs p i r.1.0 r.1.1 r.0 r.2
 signed_sound : (g : KoreSignature) (sort : KoreSort) (b : Bool) (p : KorePattern) → CanInject g (subpatterns (written_signed sort b p)) → (CanInject g (subpatterns p) → IsSoundPredicate g p) → IsSoundPredicate g (written_signed sort b p)
 signed_sound g sort true p i f = f i
 signed_sound g sort false p i f = f i
-
-abbrev turned : KoreSignature → Bool → Atom → Literal
-turned g true (same s (unknown x) (unknown y)) = record { holds = true; atom = turned_if (is_second_solved g x y) s (unknown x) (unknown y) }
-turned g true (same s t (unknown y)) = record { holds = true; atom = turned_if (is_solved_by g y t) s t (unknown y) }
-turned g b a = record { holds = b; atom = a }
 
 by_name : (g : KoreSignature) (sort s : KoreSort) (t u : SymbolicTerm) (b : Bool) → CanInject g (subpatterns (written_atom g sort (turned_if b s t u))) → IsWellSorted g s t × IsWellSorted g s u → IsSoundPredicate g (written_atom g sort (turned_if b s t u))
 by_name g sort s t u true i w = sides g s u t i (w.1, w.0)

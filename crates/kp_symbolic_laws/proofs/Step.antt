@@ -4,7 +4,7 @@ use Rattle.std.proofs.Common.{◌≡◌, refl, sym, ◌∙◌, subst, ℕ, zero,
 use Rattle.std.specs.Prelude.{if◌then◌else◌, is_some}
 use Rattle.std.specs.List.{AllByRecursion, Contains, flat_map}
 use Rattle.std.specs.Str.{bytes_eq}
-use Rattle.kp_kore.specs.Syntax.{Text, KoreSort, KorePattern}
+use Rattle.kp_kore.specs.Syntax.{KoreSort}
 use Rattle.kp_kore.specs.Parts.{SortedName, free_variables}
 use Rattle.kp_kore.specs.Signature.{KoreSignature, itself}
 use Rattle.kp_kore.specs.Value.{Value, HasSort, head_of}
@@ -20,7 +20,7 @@ use Rattle.kp_symbolic.specs.Opening.{literal_fact, opened_same, opened_test}
 use Rattle.kp_symbolic.specs.Clauses.{distributed, is_too_large}
 use Rattle.kp_symbolic.specs.Writing.{written_clause}
 use Rattle.kp_symbolic.specs.Solving.{Equation, replacement, replaced_after, opened_with, all_opened_with, is_single, opened_clause, solved_clause, literals_in, solved_clauses, Solvable, first_solvable, solved_at}
-use Rattle.kp_symbolic.proofs.Distribution.{all_both, all_first, all_second}
+use Rattle.kp_symbolic.proofs.Distribution.{all_first, all_second}
 use Rattle.kp_symbolic.proofs.Folded.{OfEach, for_instance}
 use Rattle.kp_symbolic.proofs.SeenLemmas.{Says}
 use Rattle.kp_symbolic.proofs.CallOpening.{opened_same_says}
@@ -33,7 +33,8 @@ use Rattle.kp_symbolic.proofs.Facts.{Good, GoodTerm}
 use Rattle.kp_symbolic_laws.specs.Runs.{HasOneSortEach, IsSortedState, kept_whole, IfKeptWhole, OfKeptWhole, OfKeptAt, IsWrittenRight}
 use Rattle.kp_symbolic_laws.proofs.RightEquations.{IsRightEquation, right_clause}
 use Rattle.kp_symbolic_laws.proofs.Keeping.{IsPut, all_given, put_in, put_into, by_case}
-use Rattle.kp_symbolic_laws.proofs.Found.{at_place, at_place_still, found_in}
+use Rattle.kp_symbolic.proofs.Found.{at_place, at_place_still, found_in}
+use Rattle.kp_symbolic.proofs.Solved.{by_truth, two_lists, everywhere, tail_is}
 
 -- what a step of solving goes by: the variables at hand, each name of one sort, with values of their sorts, and a right
 -- equation that is true
@@ -81,10 +82,6 @@ after_is g v hand e (r ∷ rs) tail x k i n = by (bytes_eq r.name x.name) refl i
     by true q j f = rw q (term_kept g v hand e x.sort r.term k j)
     by false q j f = rw q (f j)
 
-tail_is : (g : KoreSignature) (v : Valuation) (e : Equation) (b : Bool) (y : Text) → IsMet g v e → under_replaced g (if b then replacement e else []) v y ≡ v y
-tail_is g v e true y m = one_replaced g v e.variable.name e.term m y
-tail_is g v e false y m = refl
-
 abbrev variables_in : List Replaced → List SortedName → List SortedName
 variables_in rs xs = flat_map (λ x. variables_for x (replacement_for rs x.name)) xs
 
@@ -95,10 +92,6 @@ all_agree g v hand e b rs (x ∷ xs) k w a =
       after_is g v hand e rs (if b then replacement e else []) x k (w.0, all_first At (variables_for x (replacement_for rs x.name)) (variables_in rs xs) a) (tail_is g v e b x.name k.met),
       all_agree g v hand e b rs xs k w.1 (all_second At (variables_for x (replacement_for rs x.name)) (variables_in rs xs) a),
     )
-
-by_truth : (g : KoreSignature) (v : Valuation) (b : Bool) (p : KorePattern) (rs qs : List Replaced) → AgreesOn (free_variables p) (under_replaced g rs v) (under_replaced g qs v) → Says g v b (literal_fact b (quoted p qs)) (IsTrueUnder g (under_replaced g rs v) p)
-by_truth g v true p rs qs a = let k = same_truth g p (under_replaced g rs v) (under_replaced g qs v) a in (k.1, k.0)
-by_truth g v false p rs qs a = let k = same_truth g p (under_replaced g rs v) (under_replaced g qs v) a in ((λ n h. n (k.0 h)), (λ n h. n (k.1 h)))
 
 -- ---- atoms
 
@@ -129,10 +122,6 @@ opened_kept g v hand e c k h =
     let i = none_kept g v hand e (is_single c) c k h in
     then_says (formula_says g v (opened_clause g e c)) ((λ n f. n (i.1 f)), (λ n f. n (i.0 f)))
 
-everywhere : (g : KoreSignature) (v : Valuation) (e : Equation) (xs : List SortedName) → IsMet g v e → AgreesOn xs v (under_replaced g (replacement e) v)
-everywhere g v e [] m = tt
-everywhere g v e (x ∷ xs) m = (one_replaced g v e.variable.name e.term m x.name, everywhere g v e xs m)
-
 whole_kept : (g : KoreSignature) (v : Valuation) (sort : KoreSort) (e : Equation) (c : List Literal) → IsMet g v e → IsTrueUnder g v (written_clause g sort c) ↔ IsClauseTrue g v c → AreTrue g v (kept_whole g sort e c ∷ []) ↔ IsClauseTrue g v c
 whole_kept g v sort e c m i =
     let k = same_truth g (written_clause g sort c) v (under_replaced g (replacement e) v) (everywhere g v e (free_variables (written_clause g sort c)) m) in
@@ -143,12 +132,6 @@ clause_kept g v hand sort e n c k w h = by_case (λ zs. AreTrue g v zs ↔ IsCla
     ((λ a. a.0), (λ a. (a, tt)))
     (λ i. whole_kept g v sort e c k.met i)
     (opened_kept g v hand e c k h)
-
-two_lists : (g : KoreSignature) (v : Valuation) (xs bs : List (List Literal)) (A B : Type 0) → AreTrue g v xs ↔ A → AreTrue g v bs ↔ B → AreTrue g v (xs ++ bs) ↔ (A × B)
-two_lists g v xs bs A B i j = (
-  (λ h. (i.0 (all_first (IsClauseTrue g v) xs bs h), j.0 (all_second (IsClauseTrue g v) xs bs h))),
-  (λ h. all_both (IsClauseTrue g v) xs bs (i.1 h.0) (j.1 h.1)),
-)
 
 clauses_kept : (g : KoreSignature) (v : Valuation) (hand : List SortedName) (sort : KoreSort) (e : Equation) (n : ℕ) (o : Option ℕ) (cs : List (List Literal)) → IsStep g v hand e → OfKeptWhole g sort e (λ c. IsTrueUnder g v (written_clause g sort c) ↔ IsClauseTrue g v c) n o cs → AllByRecursion (AllByRecursion (Good g hand)) cs → AreTrue g v (solved_clauses g sort e n o cs) ↔ AreTrue g v cs
 clauses_kept g v hand sort e n o [] k w h = ((λ a. a), (λ a. a))

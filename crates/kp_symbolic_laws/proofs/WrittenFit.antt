@@ -19,7 +19,6 @@ use Rattle.kp_kore.specs.Instance.{Valuation, applied, instance, literal_value}
 use Rattle.kp_kore.specs.Foreign.{is_interpretation}
 use Rattle.kp_kore.specs.Replies.{are_literals, is_open_call, is_wide_value}
 use Rattle.kp_kore.proofs.InstanceLemmas.{first_true, second_true}
-use Rattle.kp_kore.proofs.SameLemmas.{sorts_equal-Decides}
 use Rattle.kp_signature.proofs.SortLemmas.{is_that_sort}
 use Rattle.kp_compile.specs.Spelled.{placed, places_of, home_of, spelling, spellings, injected, injection_name, has_two_sorts, truth_text}
 use Rattle.kp_compile.proofs.SpelledMeaning.{InjectsWell, said}
@@ -31,6 +30,7 @@ use Rattle.kp_symbolic.specs.Writing.{written_call, written_sum, written_term, w
 use Rattle.kp_symbolic.proofs.Replacing.{least_is}
 use Rattle.kp_symbolic.proofs.WellSorted.{plain_symbol, places_are, number_sort_is}
 use Rattle.kp_symbolic.proofs.SortedFolding.{fits_signed, symbol_fits}
+use Rattle.kp_symbolic.proofs.Written.{turned, one_sort}
 use Rattle.kp_symbolic_laws.proofs.Settled.{IsSettledValue, AreSettledValues, HaveRoom, IsSettled, AreSettled, ArePutSettled, known_settled, stands}
 use Rattle.kp_symbolic_laws.proofs.Fit.{HavePlaces, HasPlaces, IsFit, AreFit, Any, folded_settled, literal_settled}
 use Rattle.kp_symbolic_laws.proofs.OpenedSettled.{IsSettledAtom, IsSettledLiteral, AreSettledClauses}
@@ -111,9 +111,6 @@ placed_fit : (g : KoreSignature) (own s : KoreSort) (p : KorePattern) → IsRigh
 placed_fit g own s p h = by_sorts g own s p (sorts_equal own s) h
 
 -- ---- numbers
-
-one_sort : (s : KoreSort) (n : ℤ) (o : Option KoreSort) → o ≡ Some s → placed (unwrap_or o s) s (literal (unwrap_or o s) (signed_decimal n)) ≡ literal s (signed_decimal n)
-one_sort s n o e = subst (λ x. placed (unwrap_or x s) s (literal (unwrap_or x s) (signed_decimal n)) ≡ literal s (signed_decimal n)) (sym e) (rw ((sorts_equal-Decides s s).1 refl) refl)
 
 no_values_given : Valuation
 no_values_given x = no_meaning
@@ -388,11 +385,6 @@ signed_fit g sort false p h = h
 
 literal_fit : (g : KoreSignature) (sort : KoreSort) (l : Literal) → IsSettledLiteral g l → IsRightFit g (written_literal g sort l)
 literal_fit g sort l h = signed_fit g sort l.holds (written_atom g sort l.atom) (atom_fit g sort l.atom h)
-
-abbrev turned : KoreSignature → Bool → Atom → Literal
-turned g true (same s (unknown x) (unknown y)) = record { holds = true; atom = turned_if (is_second_solved g x y) s (unknown x) (unknown y) }
-turned g true (same s t (unknown y)) = record { holds = true; atom = turned_if (is_solved_by g y t) s t (unknown y) }
-turned g b a = record { holds = b; atom = a }
 
 by_name : (g : KoreSignature) (s : KoreSort) (t u : SymbolicTerm) (b : Bool) → IsSettled g t → IsSettled g u → IsSettledAtom g (turned_if b s t u)
 by_name g s t u true i j = (j, i)

@@ -12,6 +12,8 @@ use Rattle.kp_compile.specs.Spelled.{places_of}
 use Rattle.kp_symbolic.specs.Terms.{SymbolicTerm, unknown, offset, known, headed, Replaced}
 use Rattle.kp_symbolic.specs.States.{one_head, head_of_sort, Atom, same, has_head, quoted, Literal}
 use Rattle.kp_symbolic.specs.Writing.{least_fresh, new_variables, under_exists, variables_of, bound_name, renamed, written_under, all_written_under, written_atom, written_signed, written_literal, is_solved_by, is_second_solved, turned_if, written_literals, written_clause, written_clauses}
+use Rattle.kp_symbolic.proofs.Written.{turned}
+use Rattle.kp_symbolic.proofs.Read.{three_tests, two_tests}
 use Rattle.kp_symbolic_laws.specs.Runs.{IsPredicateAtom}
 use Rattle.kp_symbolic_laws.proofs.WrittenUnder.{term_form, two_of_three, placed_term, written_is_term, term_kept, pair_kept}
 
@@ -42,22 +44,11 @@ by_form false b false d e f i j k = rw (k refl refl) (either d f)
     either true f = refl
     either false f = refl
 
-three_tests : (a b c : Bool) → a || b || c ≡ true → a ≡ false → c ≡ false → b ≡ true
-three_tests a true c h e f = refl
-three_tests true false c h e f = absurd (cc)
-three_tests false false true h e f = absurd (cc)
-three_tests false false false h e f = absurd (cc)
-
 by_two : (a d e : Bool) → d ≡ a → (a ≡ false → e ≡ true) → d || e ≡ true
 by_two true true e i k = refl
 by_two true false e i k = absurd (cc)
 by_two false true e i k = refl
 by_two false false e i k = k refl
-
-two_tests : (a b : Bool) → a || b ≡ true → a ≡ false → b ≡ true
-two_tests a true h e = refl
-two_tests true false h e = absurd (cc)
-two_tests false false h e = absurd (cc)
 
 two_sides : (g : KoreSignature) (rs : List Replaced) (p q : KorePattern) → is_term p && is_term q ≡ true → is_term (written_under g rs p) && is_term (written_under g rs q) ≡ true
 two_sides g rs p q h =
@@ -111,11 +102,6 @@ atom_predicate g sort (quoted p rs) o = under_predicate g rs p o
 signed_predicate : (sort : KoreSort) (b : Bool) (p : KorePattern) → is_predicate p ≡ true → is_predicate (written_signed sort b p) ≡ true
 signed_predicate sort true p h = h
 signed_predicate sort false p h = h
-
-abbrev turned : KoreSignature → Bool → Atom → Literal
-turned g true (same s (unknown x) (unknown y)) = record { holds = true; atom = turned_if (is_second_solved g x y) s (unknown x) (unknown y) }
-turned g true (same s t (unknown y)) = record { holds = true; atom = turned_if (is_solved_by g y t) s t (unknown y) }
-turned g b a = record { holds = b; atom = a }
 
 by_name : (g : KoreSignature) (sort s : KoreSort) (t u : SymbolicTerm) (b : Bool) → is_predicate (written_atom g sort (turned_if b s t u)) ≡ true
 by_name g sort s t u true = both _ _ (written_is_term g s u) (written_is_term g s t)

@@ -18,15 +18,15 @@ use Rattle.kp_symbolic.specs.WellFormed.{IsWellSortedAtom, AreAtHand}
 use Rattle.kp_symbolic.specs.Writing.{IsSaid, written_term, written_atom, written_signed, written_literal, is_solved_by, is_second_solved, turned_if, written_literals, written_clause, written_clauses, written_state}
 use Rattle.kp_symbolic.proofs.Distribution.{all_first, all_second}
 use Rattle.kp_symbolic.proofs.Facts.{Good}
-use Rattle.kp_symbolic.proofs.Written.{written_is, equality_is_said, clause_said, clauses_said}
+use Rattle.kp_symbolic.proofs.Written.{written_is, equality_is_said, clause_said, clauses_said, turned, injects_right, injects_left}
 use Rattle.kp_symbolic_laws.specs.Runs.{IsPredicateAtom, IsWrittenAtom, IsWrittenRight, IsSortedState}
 use Rattle.kp_symbolic_laws.proofs.HeadTests.{constructor_said, sort_said}
 use Rattle.kp_symbolic_laws.proofs.Step.{at_hand_given}
-use Rattle.kp_symbolic_laws.proofs.WrittenUnder.{Well, well_left, well_right, well_behind, written_is_term, written_says}
+use Rattle.kp_symbolic_laws.proofs.WrittenUnder.{Well, well_behind, written_is_term, written_says}
 use Rattle.kp_symbolic_laws.proofs.WrittenForms.{clauses_are_predicates}
 
 -- the variables that are at hand have values of their sorts, also those that stand for others
-stand_given : (g : KoreSignature) (v : Valuation) (hand : List SortedName) (rs : List Replaced) (xs : List SortedName) → GivesSorts g v hand → AreAtHand (flat_map (λ x. variables_for x (replacement_for rs x.name)) xs) hand → AreGiven g rs v xs
+pub stand_given : (g : KoreSignature) (v : Valuation) (hand : List SortedName) (rs : List Replaced) (xs : List SortedName) → GivesSorts g v hand → AreAtHand (flat_map (λ x. variables_for x (replacement_for rs x.name)) xs) hand → AreGiven g rs v xs
 stand_given g v hand rs [] h a = tt
 stand_given g v hand rs (x ∷ xs) h a =
     let At = λ (z : SortedName). Contains hand z in
@@ -37,7 +37,7 @@ stand_given g v hand rs (x ∷ xs) h a =
 atom_said : (g : KoreSignature) (v : Valuation) (hand : List SortedName) (sort : KoreSort) (a : Atom) → Well g (written_atom g sort a) → GivesSorts g v hand → IsWellSortedAtom g a → AreAtHand (atom_variables a) hand → IsWrittenAtom g a → IsSaid g v sort a
 atom_said g v hand sort (same s t u) i h w a o =
     let j = well_behind g (written_atom g sort (same s t u)) (subpatterns (written_term g s t) ++ subpatterns (written_term g s u)) i in
-    equality_is_said g v sort s t u w.0 w.1 (well_left g (subpatterns (written_term g s t)) (subpatterns (written_term g s u)) j) (well_right g (subpatterns (written_term g s t)) (subpatterns (written_term g s u)) j)
+    equality_is_said g v sort s t u w.0 w.1 (injects_left g (subpatterns (written_term g s t)) (subpatterns (written_term g s u)) j) (injects_right g (subpatterns (written_term g s t)) (subpatterns (written_term g s u)) j)
 atom_said g v hand sort (has_head x (one_head c)) i h w a o = constructor_said g v sort x c (at_hand_given g v hand (x ∷ []) h a).0 i o.0 o.1
 atom_said g v hand sort (has_head x (head_of_sort s)) i h w a o = sort_said g v sort s x (at_hand_given g v hand (x ∷ []) h a).0 i
 atom_said g v hand sort (quoted p rs) i h w a o = written_says g rs v p i (record { predicate = o.0.0; sound = o.0.1; placed = w; given = stand_given g v hand rs (free_variables p) h a }) o.1
@@ -51,10 +51,10 @@ literals_said g v hand sort [] i h w o = tt
 literals_said g v hand sort (l ∷ c) i h w o =
     let these = subpatterns (written_literal g sort l) in
     let others = all_subpatterns (written_literals g sort c) in
-    (atom_said g v hand sort l.atom (signed_well g sort l.holds (written_atom g sort l.atom) (well_left g these others i)) h w.0.0 w.0.1 o.0, literals_said g v hand sort c (well_right g these others i) h w.1 o.1)
+    (atom_said g v hand sort l.atom (signed_well g sort l.holds (written_atom g sort l.atom) (injects_left g these others i)) h w.0.0 w.0.1 o.0, literals_said g v hand sort c (injects_right g these others i) h w.1 o.1)
 
 -- an equation whose variable stands first has the sides that it had
-joined_well : (g : KoreSignature) (ps qs : List KorePattern) → InjectsWell g ps → InjectsWell g qs → InjectsWell g (ps ++ qs)
+pub joined_well : (g : KoreSignature) (ps qs : List KorePattern) → InjectsWell g ps → InjectsWell g qs → InjectsWell g (ps ++ qs)
 joined_well g ps qs (inl e) j = inl e
 joined_well g ps qs (inr e) (inl f) = inl f
 joined_well g ps qs (inr e) (inr f) = inr (list_all-append (λ q. not (has_two_sorts q)) ps qs ∙ both_true (list_all (λ q. not (has_two_sorts q)) ps) (list_all (λ q. not (has_two_sorts q)) qs) e f)
@@ -68,13 +68,8 @@ name_well g sort s t u true i =
     let first = subpatterns (written_term g s u) in
     let second = subpatterns (written_term g s t) in
     let j = well_behind g (written_atom g sort (same s u t)) (first ++ second) i in
-    before_well g s sort (written_term g s t) (written_term g s u) (joined_well g second first (well_right g first second j) (well_left g first second j))
+    before_well g s sort (written_term g s t) (written_term g s u) (joined_well g second first (injects_right g first second j) (injects_left g first second j))
 name_well g sort s t u false i = i
-
-abbrev turned : KoreSignature → Bool → Atom → Literal
-turned g true (same s (unknown x) (unknown y)) = record { holds = true; atom = turned_if (is_second_solved g x y) s (unknown x) (unknown y) }
-turned g true (same s t (unknown y)) = record { holds = true; atom = turned_if (is_solved_by g y t) s t (unknown y) }
-turned g b a = record { holds = b; atom = a }
 
 turned_well : (g : KoreSignature) (sort : KoreSort) (b : Bool) (a : Atom) → Well g (written_literal g sort (turned g b a)) → Well g (written_atom g sort a)
 turned_well g sort true (same s (unknown x) (unknown y)) i = name_well g sort s (unknown x) (unknown y) (is_second_solved g x y) i
@@ -110,7 +105,7 @@ all_said g v hand sort [] i h w o = tt
 all_said g v hand sort (c ∷ cs) i h w o =
     let these = subpatterns (written_clause g sort c) in
     let others = all_subpatterns (written_clauses g sort cs) in
-    (clause_well g v hand sort c (well_left g these others i) h w.0 o.0, all_said g v hand sort cs (well_right g these others i) h w.1 o.1)
+    (clause_well g v hand sort c (injects_left g these others i) h w.0 o.0, all_said g v hand sort cs (injects_right g these others i) h w.1 o.1)
 
 -- inj is what it should be
 pub clause_right : (g : KoreSignature) (v : Valuation) (s : SymbolicState) (c : List Literal) → meaning_of g injection_name ≡ injection → GivesSorts g v s.variables → AllByRecursion (Good g s.variables) c → AllByRecursion (λ l. IsWrittenAtom g l.atom) c → IsWrittenRight g v s c
@@ -142,7 +137,7 @@ term_alone (literal s x) h = refl
 term_alone (application f ss ps) h = refl
 term_alone _ h = absurd (cc)
 
-not_terms : (qs : List KorePattern) → AllByRecursion (λ q. is_term q ≡ false) qs → AllByRecursion (λ q. not (is_term q) ≡ true) qs
+pub not_terms : (qs : List KorePattern) → AllByRecursion (λ q. is_term q ≡ false) qs → AllByRecursion (λ q. not (is_term q) ≡ true) qs
 not_terms [] a = tt
 not_terms (q ∷ qs) a = (rw (a.0) refl, not_terms qs a.1)
 
@@ -185,7 +180,7 @@ state_well g s (c ∷ cs) e j =
     let others = all_subpatterns (written_clauses g s.sort (c ∷ cs)) in
     let p = conjunction s.sort (next_pattern (written_term g s.sort s.term) (written_clauses g s.sort (c ∷ cs))) in
     let k = well_behind g p (term ++ others) (subst (Well g) (several s e) j) in
-    (well_left g term others k, well_right g term others k)
+    (injects_left g term others k, injects_right g term others k)
   where
     several : (s : SymbolicState) → s.clauses ≡ c ∷ cs → written_state g s ≡ conjunction s.sort (next_pattern (written_term g s.sort s.term) (written_clauses g s.sort (c ∷ cs)))
     several s e = rw e refl

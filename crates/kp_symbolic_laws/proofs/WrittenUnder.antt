@@ -3,7 +3,6 @@ use Rattle.std.proofs.Common.{◌≡◌, refl, sym, ◌∙◌, ap, ap₂, subst,
 use Rattle.std.specs.Prelude.{if◌then◌else◌, option_map, unwrap_or, MatchBool, ℤ, neg_ℤ, int_lt, pos}
 use Rattle.std.specs.Fmt.{signed_decimal}
 use Rattle.std.specs.List.{AllByRecursion, list_all}
-use Rattle.std.proofs.lemmas.List.Folds.{list_all-append}
 use Rattle.kp_kore.specs.Syntax.{Text, KoreSort, sort_variable, KoreSorts, no_sorts, next_sort, KorePattern, KorePatterns, variable, application, literal, top, bottom, negation, conjunction, disjunction, implication, equivalence, exists, forall, ceil, floor, equals, membership, no_patterns, next_pattern}
 use Rattle.kp_kore.specs.Attributes.{sorts_equal}
 use Rattle.kp_kore.specs.Hooks.{addition, subtraction}
@@ -26,7 +25,8 @@ use Rattle.kp_symbolic.specs.Folding.{least_symbol, term_for, folded}
 use Rattle.kp_symbolic.specs.Writing.{written_call, written_sum, written_term, written_terms, bound_name, renamed, written_under, all_written_under}
 use Rattle.kp_symbolic.proofs.Distribution.{all_first, all_second}
 use Rattle.kp_symbolic.proofs.Folded.{folded_is}
-use Rattle.kp_symbolic.proofs.Written.{written_is}
+use Rattle.kp_symbolic.proofs.Written.{written_is, injects_right, injects_left}
+use Rattle.kp_symbolic.proofs.Read.{three_tests, two_tests}
 use Rattle.kp_symbolic_laws.specs.Runs.{HasRoom, AllHaveRoom, IsSoundTerm, IsSoundPair, IsSoundPredicate, AreSoundPredicates}
 use Rattle.kp_symbolic_laws.proofs.RightEquations.{value_at}
 use Rattle.kp_symbolic_laws.proofs.Binders.{IsUnder, bound_apart, all_under, under_placed, under_given, under_agrees}
@@ -133,16 +133,8 @@ under_inj g v own s p i = by (sorts_equal own s)
 abbrev pub Well : KoreSignature → KorePattern → Type 0
 Well g p = InjectsWell g (subpatterns p)
 
-pub well_left : (g : KoreSignature) (ps qs : List KorePattern) → InjectsWell g (ps ++ qs) → InjectsWell g ps
-well_left g ps qs (inl e) = inl e
-well_left g ps qs (inr e) = inr (first_true (list_all (λ q. not (has_two_sorts q)) ps) (list_all (λ q. not (has_two_sorts q)) qs) (sym (list_all-append (λ q. not (has_two_sorts q)) ps qs) ∙ e))
-
-pub well_right : (g : KoreSignature) (ps qs : List KorePattern) → InjectsWell g (ps ++ qs) → InjectsWell g qs
-well_right g ps qs (inl e) = inl e
-well_right g ps qs (inr e) = inr (second_true (list_all (λ q. not (has_two_sorts q)) ps) (list_all (λ q. not (has_two_sorts q)) qs) (sym (list_all-append (λ q. not (has_two_sorts q)) ps qs) ∙ e))
-
 pub well_behind : (g : KoreSignature) (q : KorePattern) (ps : List KorePattern) → InjectsWell g (q ∷ ps) → InjectsWell g ps
-well_behind g q ps j = well_right g (q ∷ []) ps j
+well_behind g q ps j = injects_right g (q ∷ []) ps j
 
 not_placed : (own s : KoreSort) (p : KorePattern) (b : Bool) → list_all (λ q. not (has_two_sorts q)) (subpatterns (if b then p else injected own s p)) ≡ true → b ≡ true
 not_placed own s p true e = refl
@@ -171,7 +163,7 @@ spelled_at g v a b (token t x) i h = under_inj g v t a _ i ∙ sym (under_inj g 
 spelled_at g v a b (constructed c us) i h = under_inj g v _ a _ i ∙ sym (under_inj g v _ b _ i)
 
 -- a value that is written without inj has the sort of its place
-at_its_sort : (g : KoreSignature) (b : KoreSort) (u : Value) (o : Option KoreSort) (a k : KoreSort) → own_sort g u ≡ o → o ≡ Some k → unwrap_or o a ≡ a → HasSort g b u → HasSort g a u
+pub at_its_sort : (g : KoreSignature) (b : KoreSort) (u : Value) (o : Option KoreSort) (a k : KoreSort) → own_sort g u ≡ o → o ≡ Some k → unwrap_or o a ≡ a → HasSort g b u → HasSort g a u
 at_its_sort g b u o a k e f q h = value_at g b a u h (subst (λ z. is_sort_below g z a ≡ true) (sym (e ∙ f)) ((is_below-Decides g.subsorts k a).1 (subst (λ z. IsBelow g.subsorts k z) (ap (λ z. unwrap_or z a) (sym f) ∙ q) (itself k))))
 
 spelled_here : (g : KoreSignature) (a b : KoreSort) (u : Value) → list_all (λ q. not (has_two_sorts q)) (subpatterns (spelling g a u)) ≡ true → HasSort g b u → HasSort g a u
@@ -225,8 +217,8 @@ same_sides u u' w w' e f = ((λ h. sym e ∙ h ∙ f), (λ h. e ∙ h ∙ sym f)
 both_written : (g : KoreSignature) (rs : List Replaced) (v : Valuation) (p q : KorePattern) → InjectsWell g (subpatterns (written_under g rs p) ++ subpatterns (written_under g rs q)) → IsSoundTerm g p × IsSoundTerm g q → AllByRecursion (Placed g rs) (free_variables p ++ free_variables q) → AllByRecursion (Sorted g rs v) (free_variables p ++ free_variables q) →
     (instance g v (written_under g rs p) ≡ instance g v (written_under g rs q)) ↔ (instance g (under_replaced g rs v) p ≡ instance g (under_replaced g rs v) q)
 both_written g rs v p q i o w k = same_sides _ _ _ _
-    (side_written g rs v p (well_left g (subpatterns (written_under g rs p)) (subpatterns (written_under g rs q)) i) o.0 (all_first (Placed g rs) (free_variables p) (free_variables q) w) (all_first (Sorted g rs v) (free_variables p) (free_variables q) k))
-    (side_written g rs v q (well_right g (subpatterns (written_under g rs p)) (subpatterns (written_under g rs q)) i) o.1 (all_second (Placed g rs) (free_variables p) (free_variables q) w) (all_second (Sorted g rs v) (free_variables p) (free_variables q) k))
+    (side_written g rs v p (injects_left g (subpatterns (written_under g rs p)) (subpatterns (written_under g rs q)) i) o.0 (all_first (Placed g rs) (free_variables p) (free_variables q) w) (all_first (Sorted g rs v) (free_variables p) (free_variables q) k))
+    (side_written g rs v q (injects_right g (subpatterns (written_under g rs p)) (subpatterns (written_under g rs q)) i) o.1 (all_second (Placed g rs) (free_variables p) (free_variables q) w) (all_second (Sorted g rs v) (free_variables p) (free_variables q) k))
 
 -- ---- predicates and their parts
 
@@ -265,17 +257,6 @@ pub unmatched : (b : Bool) (P Q : Type 0) → b ≡ false → MatchBool b P Q �
 unmatched true P Q e m = absurd (cc)
 unmatched false P Q e m = m
 
-pub three_tests : (a b c : Bool) → a || b || c ≡ true → a ≡ false → c ≡ false → b ≡ true
-three_tests a true c h e f = refl
-three_tests true false c h e f = absurd (cc)
-three_tests false false true h e f = absurd (cc)
-three_tests false false false h e f = absurd (cc)
-
-pub two_tests : (a b : Bool) → a || b ≡ true → a ≡ false → b ≡ true
-two_tests a true h e = refl
-two_tests true false h e = absurd (cc)
-two_tests false false h e = absurd (cc)
-
 abbrev Says : KoreSignature → List Replaced → Valuation → KorePattern → Type 0
 Says g rs v p = IsTrueUnder g v (written_under g rs p) ↔ IsTrueUnder g (under_replaced g rs v) p
 
@@ -290,8 +271,8 @@ pair_written g rs v (conjunction t (next_pattern p (next_pattern q no_patterns))
     let ps = next_pattern q no_patterns in
     let both = well_behind g (written_under g rs (conjunction t (next_pattern p ps))) (subpatterns (written_under g rs p) ++ (subpatterns (written_under g rs q) ++ [])) i in
     same_sides _ _ _ _
-    (side_written g rs v p (well_left g (subpatterns (written_under g rs p)) (subpatterns (written_under g rs q) ++ []) both) o.0 (all_first (Placed g rs) (free_variables p) (all_free_variables ps) w) (all_first (Sorted g rs v) (free_variables p) (all_free_variables ps) k))
-    (side_written g rs v q (well_left g (subpatterns (written_under g rs q)) [] (well_right g (subpatterns (written_under g rs p)) (subpatterns (written_under g rs q) ++ []) both)) o.1 (all_first (Placed g rs) (free_variables q) [] (all_second (Placed g rs) (free_variables p) (all_free_variables ps) w)) (all_first (Sorted g rs v) (free_variables q) [] (all_second (Sorted g rs v) (free_variables p) (all_free_variables ps) k)))
+    (side_written g rs v p (injects_left g (subpatterns (written_under g rs p)) (subpatterns (written_under g rs q) ++ []) both) o.0 (all_first (Placed g rs) (free_variables p) (all_free_variables ps) w) (all_first (Sorted g rs v) (free_variables p) (all_free_variables ps) k))
+    (side_written g rs v q (injects_left g (subpatterns (written_under g rs q)) [] (injects_right g (subpatterns (written_under g rs p)) (subpatterns (written_under g rs q) ++ []) both)) o.1 (all_first (Placed g rs) (free_variables q) [] (all_second (Placed g rs) (free_variables p) (all_free_variables ps) w)) (all_first (Sorted g rs v) (free_variables q) [] (all_second (Sorted g rs v) (free_variables p) (all_free_variables ps) k)))
 pair_written g rs v _ i o w k e = absurd (cc)
 
 ceil_written : (g : KoreSignature) (rs : List Replaced) (v : Valuation) (a s : KoreSort) (p : KorePattern) → Well g (written_under g rs p) → IsQuoted g rs v (ceil a s p) → (IsQuoted g rs v p → Says g rs v p) → Says g rs v (ceil a s p)
@@ -331,14 +312,14 @@ mutual
   written_says g rs v (implication s p q) i r m =
       let parts = two_quoted g rs v p q r.predicate r.sound r.placed r.given in
       let j = (well_behind g (written_under g rs (implication s p q)) (subpatterns (written_under g rs p) ++ subpatterns (written_under g rs q)) i) in
-      let k = written_says g rs v p (well_left g (subpatterns (written_under g rs p)) (subpatterns (written_under g rs q)) j) parts.0 m.0 in
-      let l = written_says g rs v q (well_right g (subpatterns (written_under g rs p)) (subpatterns (written_under g rs q)) j) parts.1 m.1 in
+      let k = written_says g rs v p (injects_left g (subpatterns (written_under g rs p)) (subpatterns (written_under g rs q)) j) parts.0 m.0 in
+      let l = written_says g rs v q (injects_right g (subpatterns (written_under g rs p)) (subpatterns (written_under g rs q)) j) parts.1 m.1 in
       ((λ f h. l.0 (f (k.1 h))), (λ f h. l.1 (f (k.0 h))))
   written_says g rs v (equivalence s p q) i r m =
       let parts = two_quoted g rs v p q r.predicate r.sound r.placed r.given in
       let j = (well_behind g (written_under g rs (equivalence s p q)) (subpatterns (written_under g rs p) ++ subpatterns (written_under g rs q)) i) in
-      let k = written_says g rs v p (well_left g (subpatterns (written_under g rs p)) (subpatterns (written_under g rs q)) j) parts.0 m.0 in
-      let l = written_says g rs v q (well_right g (subpatterns (written_under g rs p)) (subpatterns (written_under g rs q)) j) parts.1 m.1 in
+      let k = written_says g rs v p (injects_left g (subpatterns (written_under g rs p)) (subpatterns (written_under g rs q)) j) parts.0 m.0 in
+      let l = written_says g rs v q (injects_right g (subpatterns (written_under g rs p)) (subpatterns (written_under g rs q)) j) parts.1 m.1 in
       ((λ f. ((λ h. l.0 (f.0 (k.1 h))), (λ h. k.0 (f.1 (l.1 h))))), (λ f. ((λ h. l.1 (f.0 (k.0 h))), (λ h. k.1 (f.1 (l.0 h))))))
   written_says g rs v (exists s x t p) i r m =
       let y = bound_name rs x p in
@@ -364,13 +345,13 @@ mutual
   all_say : (g : KoreSignature) (rs : List Replaced) (v : Valuation) (ps : KorePatterns) → InjectsWell g (all_subpatterns (all_written_under g rs ps)) → AreQuoted g rs v ps → AllHaveRoom rs ps → AllTrueUnder g v (all_written_under g rs ps) ↔ AllTrueUnder g (under_replaced g rs v) ps
   all_say g rs v no_patterns i r m = ((λ h. h), (λ h. h))
   all_say g rs v (next_pattern p ps) i r m =
-      let k = written_says g rs v p (well_left g (subpatterns (written_under g rs p)) (all_subpatterns (all_written_under g rs ps)) i) (first_quoted g rs v p ps r) m.0 in
-      let l = all_say g rs v ps (well_right g (subpatterns (written_under g rs p)) (all_subpatterns (all_written_under g rs ps)) i) (others_quoted g rs v p ps r) m.1 in
+      let k = written_says g rs v p (injects_left g (subpatterns (written_under g rs p)) (all_subpatterns (all_written_under g rs ps)) i) (first_quoted g rs v p ps r) m.0 in
+      let l = all_say g rs v ps (injects_right g (subpatterns (written_under g rs p)) (all_subpatterns (all_written_under g rs ps)) i) (others_quoted g rs v p ps r) m.1 in
       ((λ h. (k.0 h.0, l.0 h.1)), (λ h. (k.1 h.0, l.1 h.1)))
 
   none_say : (g : KoreSignature) (rs : List Replaced) (v : Valuation) (ps : KorePatterns) → InjectsWell g (all_subpatterns (all_written_under g rs ps)) → AreQuoted g rs v ps → AllHaveRoom rs ps → NoneTrueUnder g v (all_written_under g rs ps) ↔ NoneTrueUnder g (under_replaced g rs v) ps
   none_say g rs v no_patterns i r m = ((λ h. h), (λ h. h))
   none_say g rs v (next_pattern p ps) i r m =
-      let k = written_says g rs v p (well_left g (subpatterns (written_under g rs p)) (all_subpatterns (all_written_under g rs ps)) i) (first_quoted g rs v p ps r) m.0 in
-      let l = none_say g rs v ps (well_right g (subpatterns (written_under g rs p)) (all_subpatterns (all_written_under g rs ps)) i) (others_quoted g rs v p ps r) m.1 in
+      let k = written_says g rs v p (injects_left g (subpatterns (written_under g rs p)) (all_subpatterns (all_written_under g rs ps)) i) (first_quoted g rs v p ps r) m.0 in
+      let l = none_say g rs v ps (injects_right g (subpatterns (written_under g rs p)) (all_subpatterns (all_written_under g rs ps)) i) (others_quoted g rs v p ps r) m.1 in
       ((λ h. ((λ t. h.0 (k.1 t)), l.0 h.1)), (λ h. ((λ t. h.0 (k.0 t)), l.1 h.1)))

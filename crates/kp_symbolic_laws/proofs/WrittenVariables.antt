@@ -21,6 +21,7 @@ use Rattle.kp_symbolic.specs.Writing.{bound_name, renamed, written_under, all_wr
 use Rattle.kp_symbolic.proofs.Distribution.{all_both, all_first, all_second}
 use Rattle.kp_symbolic.proofs.Folded.{OfEach, folded_variables}
 use Rattle.kp_symbolic.proofs.Facts.{Good}
+use Rattle.kp_symbolic.proofs.Written.{turned}
 use Rattle.kp_symbolic_laws.specs.Runs.{IsPredicateAtom, IsSortedState, IsWrittenOfThese}
 use Rattle.kp_symbolic_laws.proofs.Binders.{other_way}
 use Rattle.kp_symbolic_laws.proofs.HeadTests.{placed_variables, test_variables}
@@ -169,11 +170,6 @@ literals_written g Q sort [] o a = tt
 literals_written g Q sort (l ∷ c) o a = all_both Q (free_variables (written_literal g sort l)) (all_free_variables (written_literals g sort c))
     (signed_written g Q sort l.holds l.atom (atom_written g Q sort l.atom o.0 (all_first Q (atom_variables l.atom) (clause_variables c) a)))
     (literals_written g Q sort c o.1 (all_second Q (atom_variables l.atom) (clause_variables c) a))
-
-abbrev turned : KoreSignature → Bool → Atom → Literal
-turned g true (same s (unknown x) (unknown y)) = record { holds = true; atom = turned_if (is_second_solved g x y) s (unknown x) (unknown y) }
-turned g true (same s t (unknown y)) = record { holds = true; atom = turned_if (is_solved_by g y t) s t (unknown y) }
-turned g b a = record { holds = b; atom = a }
 
 by_name : (g : KoreSignature) (Q : SortedName → Type 0) (sort s : KoreSort) (b : Bool) (t u : SymbolicTerm) → AllByRecursion Q (term_variables t ++ term_variables u) → AllByRecursion Q (free_variables (written_atom g sort (turned_if b s t u)))
 by_name g Q sort s true t u a = sides_written g Q s u t (all_second Q (term_variables t) (term_variables u) a) (all_first Q (term_variables t) (term_variables u) a)

@@ -1,10 +1,8 @@
 -- A left side goes on its way, by one narrowing.
-use Rattle.std.proofs.Common.{◌≡◌, refl, sym, ap, ap₂, subst, ◌∙◌, ℕ, ◌+◌, ◌^◌, ◌<◌, ◌≤◌, Bool, true, false, ◌||◌, List, [], ◌∷◌, ◌++◌, map, drop, arith, inl, inr}
+use Rattle.std.proofs.Common.{◌≡◌, refl, sym, ap₂, subst, ◌∙◌, ℕ, ◌+◌, ◌^◌, ◌<◌, ◌≤◌, Bool, true, false, ◌||◌, List, [], ◌∷◌, ◌++◌, map, arith, inl, inr}
 use Rattle.std.specs.Prelude.{if◌then◌else◌}
 use Rattle.std.specs.List.{AllByRecursion, Contains}
 use Rattle.std.specs.Str.{bytes_eq}
-use Rattle.std.specs.Str.Parse.{digits_value}
-use Rattle.std.proofs.lemmas.Fmt.{decimal_is_IsNumeral_wide}
 use Rattle.std.proofs.lemmas.List.{map-append}
 use Rattle.std.proofs.lemmas.Slice.Eq.{bytes_eq-Decides}
 use Rattle.kp_kore.specs.Syntax.{Text, KoreSort, KoreSorts, no_sorts, next_sort}
@@ -18,9 +16,9 @@ use Rattle.kp_symbolic.specs.Terms.{unknown, known}
 use Rattle.kp_symbolic.specs.States.{Literal, one_head, head_of_sort}
 use Rattle.kp_symbolic.specs.Solving.{Equation}
 use Rattle.kp_symbolic.specs.WellFormed.{IsWellSorted}
-use Rattle.kp_symbolic.specs.Writing.{fresh_name}
 use Rattle.kp_symbolic.proofs.Distribution.{all_both}
 use Rattle.kp_rules.specs.Skeletons.{Form, Forms}
+use Rattle.kp_symbolic_laws.proofs.NewNames.{same_number}
 use Rattle.kp_case_laws.specs.Parts.{StatePart, AreNew, IsGrown, IsNewVariable, IsSortedPart, with_clauses}
 use Rattle.kp_case_laws.specs.Narrowings.{are_never, head_clauses, has_other_head, heads_inside, heads_outside, all_unknown, constructor_term, sorts_of_names, part_with_term}
 use Rattle.kp_case_laws.specs.Courses as courses
@@ -39,9 +37,6 @@ use Rattle.kp_unify.proofs.LaidLemmas.{next_lies, laid_put, laid_moved}
 use Rattle.kp_unify.proofs.FormedLemmas.{AreFormed, formed_with, head_clauses_formed, other_head_formed, outside_formed, inside_formed, constructor_normal, part_formed, course_put, course_moved}
 
 -- ---- names
-
-same_number : (n m : ℕ) → n < 10 ^ 64 → m < 10 ^ 64 → fresh_name n ≡ fresh_name m → n ≡ m
-same_number n m h k e = sym (decimal_is_IsNumeral_wide n h).1 ∙ ap (λ t. digits_value 10 (drop 5 t)) e ∙ (decimal_is_IsNumeral_wide m k).1
 
 few_is_small : (n : ℕ) → n < 2 ^ 64 → n < 10 ^ 64
 few_is_small n h = omega (arith, h)

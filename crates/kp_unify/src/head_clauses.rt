@@ -5,7 +5,7 @@ ghost use Rattle.kp_kore.specs.Signature.{is_head as model_head};
 ghost use Rattle.kp_kore.specs.Syntax.{sort_of, no_sorts};
 ghost use Rattle.kp_kore.specs.View.{sort_view};
 ghost use Rattle.kp_signature.specs.View.{signature_view};
-ghost use Rattle.kp_symbolic.specs.Heads.{is_constructor_head, passes_head};
+ghost use Rattle.kp_symbolic.specs.Heads.{passes_head};
 ghost use Rattle.kp_symbolic.specs.States.{one_head, head_of_sort};
 ghost use Rattle.kp_sort_heads.specs.Views.{head_view};
 ghost use Rattle.kp_symbolic.specs.View.{variable_view, test_view, literal_view, clause_view, clauses_view};
@@ -17,7 +17,7 @@ use crate::literals::{head_literal, sort_test};
 use kp_formulas::joined::{kept_once, make_clause};
 use kp_kore::{Name, Sort, SymbolSentence};
 use kp_signature::Signature;
-use kp_sort_heads::{SortHead, heads, is_head};
+use kp_sort_heads::{SortHead, heads, is_head, is_named};
 use kp_symbolic::{Clause, HeadTest, Literal, Variable};
 use std::alloc::{AllocError, Global};
 use std::sync::Arc;
@@ -65,16 +65,6 @@ fn test_of(alloc: Global, signature: &Signature, head: &SortHead) -> Result<Head
         SortHead::Booleans => named_test(alloc, signature.boolean_sort()),
         SortHead::Tokens { sort } => sort_test(alloc, sort),
         SortHead::Constructor { declaration } => declared_test(alloc, declaration),
-    }
-}
-
-/// Whether the head is the constructor of this name.
-fn is_named(head: &SortHead, name: &str) -> bool
-    ensures { result ≡ is_constructor_head name.now (head_view head.now) }
-{
-    match head {
-        SortHead::Constructor { declaration } => declaration.name.as_str() == name,
-        SortHead::Integers | SortHead::Booleans | SortHead::Tokens { .. } => false,
     }
 }
 

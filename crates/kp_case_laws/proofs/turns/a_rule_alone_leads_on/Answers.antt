@@ -1,4 +1,5 @@
-use Rattle.kp_case_laws.proofs.LoneRule.{leads_on, has_turn_alone}
+use Rattle.kp_case_laws.proofs.AloneSteps.{leads_on}
+use Rattle.kp_case_laws.proofs.LoneRule.{has_turn_alone}
 use Rattle.kp_case_laws.proofs.turns.a_rule_alone_leads_on.Goals as goal
 
 pub returns-clause-leads : goal.returns-clause-leads

@@ -8,9 +8,10 @@ use Rattle.kp_symbolic.specs.Opening.{all_opened, opened_leaf}
 use Rattle.kp_symbolic.specs.Faultless.{IsFaultless}
 use Rattle.kp_symbolic.specs.Languages.{language_view}
 use Rattle.kp_symbolic.specs.View.{replaced_view}
+use Rattle.kp_symbolic.proofs.FaultlessParts.{of_negation, of_ceil, of_floor, first_implied, second_implied, first_equivalent, second_equivalent, of_conjunction, of_disjunction}
 use Rattle.kp_formulas.specs.Distribution.{distribution_of, distributions_of, all_distributed, one_distributed, agreement_of}
 use Rattle.kp_formulas.specs.DistributionView.{distributed_view}
-use Rattle.kp_formulas.proofs.FaultlessLemmas.{handed, of_negation, of_ceil, of_floor, of_conjunction, of_disjunction, first_implied, second_implied, first_equivalent, second_equivalent}
+use Rattle.kp_formulas.proofs.FaultlessLemmas.{handed}
 use Rattle.kp_clauses.specs.OpenedPredicates.{opened_by}
 use Rattle.kp_clauses.proofs.OpenedLemmas.{conjunction_holds, conjunction_fails, disjunction_holds, disjunction_fails, implication_holds, implication_fails, agreement_holds, agreement_fails, faultless_at}
 use Rattle.kp_clauses.proofs.opened.+open.Goals as goal

@@ -7,8 +7,9 @@ use Rattle.kp_symbolic.specs.Opening.{opened_ceil}
 use Rattle.kp_symbolic.specs.Faultless.{IsFaultless}
 use Rattle.kp_symbolic.specs.Languages.{language_view}
 use Rattle.kp_symbolic.specs.View.{replaced_view}
+use Rattle.kp_symbolic.proofs.FaultlessParts.{of_conjunction}
 use Rattle.kp_formulas.specs.FormulaView.{formula_view}
-use Rattle.kp_formulas.proofs.FaultlessLemmas.{handed, of_conjunction}
+use Rattle.kp_formulas.proofs.FaultlessLemmas.{handed}
 use Rattle.kp_formulas.proofs.leaf.open_ceil.Goals as goal
 
 pub returns-in-And-clause-opened : goal.returns-in-And-clause-opened

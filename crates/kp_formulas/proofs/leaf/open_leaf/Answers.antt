@@ -7,8 +7,9 @@ use Rattle.kp_symbolic.specs.Opening.{opened_leaf}
 use Rattle.kp_symbolic.specs.Faultless.{IsFaultless}
 use Rattle.kp_symbolic.specs.Languages.{language_view}
 use Rattle.kp_symbolic.specs.View.{replaced_view}
+use Rattle.kp_symbolic.proofs.FaultlessParts.{first_equal, second_equal, first_in, second_in}
 use Rattle.kp_formulas.specs.FormulaView.{formula_view}
-use Rattle.kp_formulas.proofs.FaultlessLemmas.{both_handed, first_equal, second_equal, first_in, second_in}
+use Rattle.kp_formulas.proofs.FaultlessLemmas.{both_handed}
 use Rattle.kp_formulas.proofs.LeafLemmas.{asked_exists}
 use Rattle.kp_formulas.proofs.leaf.open_leaf.Goals as goal
 

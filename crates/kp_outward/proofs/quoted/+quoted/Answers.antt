@@ -12,7 +12,7 @@ use Rattle.kp_symbolic.specs.Faultless.{IsFaultless}
 use Rattle.kp_symbolic.specs.View.{replaced_view}
 use Rattle.kp_outward.specs.Parts.{HasRoomUnder}
 use Rattle.kp_outward.proofs.BoundLemmas.{all_written}
-use Rattle.kp_outward.proofs.FaultlessTerms.{of_negation, of_conjunction, of_disjunction, first_implied, second_implied, first_equivalent, second_equivalent, of_exists, of_forall, of_ceil, of_floor, first_equal, second_equal, first_in, second_in}
+use Rattle.kp_symbolic.proofs.FaultlessParts.{of_negation, of_conjunction, of_disjunction, first_implied, second_implied, first_equivalent, second_equivalent, of_exists, of_forall, of_ceil, of_floor, first_equal, second_equal, first_in, second_in}
 use Rattle.kp_outward.proofs.TermRoom.{room_further, room_of_all, written_further}
 use Rattle.kp_outward.proofs.quoted.+quoted.Goals as goal
 

@@ -2,8 +2,7 @@ use Rattle.std.proofs.Common.{arith, sym, subst, refl, ℕ, ◌+◌, ◌≤◌, 
 use Rattle.std.proofs.lemmas.List.{get_or_default}
 use Rattle.kp_step.specs.Answers.{TellsForeign}
 use Rattle.kp_step.specs.declared.part_answers.PartAnswer.TheVariants as answer
-use Rattle.kp_step.proofs.FirstLemmas.{Asking, asks_none, asks_open, asks_met}
-use Rattle.kp_step.proofs.HeardLemmas.{asks_known}
+use Rattle.kp_step.proofs.FirstLemmas.{Asking, asks_none, asks_open, asks_met, known_or_open}
 use Rattle.kp_step.proofs.foreign.foreign.Goals.{in-Nothing, in-UndecidedClauses+in_ok-push-in-UndecidedClauses}
 use Rattle.kp_step.proofs.foreign.foreign.Goals as goal
 
@@ -36,4 +35,4 @@ returns c t used s k =
     let places = c.in_turn-place-items.result.now in
     let past : length places ≤ c.loop-place.place-index = omega (arith, c.loop-place-test.false) in
     let all = c.loop-place.invariant t used s k in
-    asks_known t used s c.args.rules.now places c.loop-place.place-index c.loop-place.opened.items c.undecided_rule.result k.steps.runs c.in_turn-place-items.ensures past all (c.undecided_rule.ensures t used s all.1)
+    known_or_open t used s c.args.rules.now places c.loop-place.place-index c.loop-place.opened.items c.undecided_rule.result k.steps.runs c.in_turn-place-items.ensures past all (c.undecided_rule.ensures t used s all.1)

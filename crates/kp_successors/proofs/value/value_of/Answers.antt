@@ -9,7 +9,8 @@ use Rattle.kp_signature.specs.View.{signature_view}
 use Rattle.kp_kore.specs.Numbers.{computes_wide}
 use Rattle.kp_ground.specs.Terms.{stays_narrow}
 use Rattle.kp_ground.specs.TermView.{term_view}
-use Rattle.kp_successors.proofs.Finding.{not_none, is_none, not_wide, unvalued}
+use Rattle.kp_compile.proofs.GroundStates.{no_variables}
+use Rattle.kp_successors.proofs.Finding.{not_none, not_wide, unvalued}
 use Rattle.kp_successors.proofs.value.value_of.Goals as goal
 
 pub returns-then-not-is_empty-clause-refused : goal.returns-then-not-is_empty-clause-refused
@@ -37,5 +38,5 @@ pub evaluate-requires : goal.evaluate-requires
 evaluate-requires c =
     let empty : c.is_empty.result ≡ nat_eq (length c.in_ok-free_vars.field-0.items) 0 = search rules in
     let is : c.is_empty.result ≡ true = search rules in
-    let closed : free_variables (view c.args.pattern.now) ≡ [] = sym c.in_ok-free_vars.ensures ∙ is_none c.is_empty.result c.in_ok-free_vars.field-0.items empty is in
+    let closed : free_variables (view c.args.pattern.now) ≡ [] = sym c.in_ok-free_vars.ensures ∙ no_variables c.is_empty.result c.in_ok-free_vars.field-0.items empty is in
     subst (λ xs. term_reads xs c.in-Ok.term ≡ true) c.no_names.ensures (c.in-Ok.ensures.reads (ap (are_named (names_seen c.no_names.result)) closed))
