@@ -65,7 +65,6 @@ pub fn what_is_written_of_add_module_asks_it()
 {}
 
 /// What is read of the text of a question to add a module asks to add it, under its id for a name alone.
-#[tactic(auto, using(crate::proofs::Back::question_to_add_read))]
 pub fn what_is_read_of_a_question_to_add_asks_it()
     ensures { (id : RequestId) (text : Text) (d e : Data) (frame : List ℕ) → IsAskable (to_add id text) → question_tree (to_add id text) ≡ Some d
         → frame ≡ compact_text d → IsJson frame e → read_frame e ≡ single (record { id = Some id; asked = asks (add_module text false) }) }
