@@ -20,7 +20,7 @@ use Rattle.kp_step.specs.ReadyParts.{parts_of}
 use Rattle.kp_step.specs.Meets.{MeetsRule, AllMeet}
 use Rattle.kp_step.specs.Counted.{ComparesWithin}
 use Rattle.kp_step.proofs.MeetLemmas.{one_of_these_meets, only_it}
-use Rattle.kp_step.specs.Remainders.{IsOneOf, IsOfThese, AreRemaining}
+use Rattle.kp_step.specs.Remainders.{IsOneOf, IsOfThese, AreUntaken}
 use Rattle.kp_step.specs.Causes.{MayRewrite, IsAsked, IsShownOf, IsUndecidedStep}
 
 part_among : (ps : List NumberedPart) (q : NumberedPart) → Contains ps q → Contains (parts_of ps) q.part
@@ -57,7 +57,7 @@ open_state t s shown over told shows compares = record {
 
 -- of a part that rules leave to a rule
 pub undecided_rule : (t : Theory) (used : List Text) (s : SymbolicState) (m : StatePart) (r : RewriteRule) (read : Rewrite) (found : List RewriteRule) (parts : List NumberedPart) (q : NumberedPart) (shown : List (List Literal)) (over : Option Weighed) →
-    r.body ≡ rewrite read → AllByRecursion (Contains t.rules) found → MeetsRule t.signature s r.body → AllMeet t.signature s found → AreRemaining t.signature used (Some r) found (whole s) m parts → Contains parts q → IsShownOf t.signature s q.part.state shown over → ComparesWithin t.signature s q.part.state (r ∷ found) over → IsUndecidedStep t s (Some r) shown over
+    r.body ≡ rewrite read → AllByRecursion (Contains t.rules) found → MeetsRule t.signature s r.body → AllMeet t.signature s found → AreUntaken t.signature used (Some r) found (whole s) m parts → Contains parts q → IsShownOf t.signature s q.part.state shown over → ComparesWithin t.signature s q.part.state (r ∷ found) over → IsUndecidedStep t s (Some r) shown over
 undecided_rule t used s m r read found parts q shown over body members own all l c shows compares = record {
   turns = found;
   of_theory = members;
@@ -74,7 +74,7 @@ undecided_rule t used s m r read found parts q shown over body members own all l
 
 -- of a part that they leave to none
 pub open_remainder : (t : Theory) (used : List Text) (s : SymbolicState) (m : StatePart) (found : List RewriteRule) (parts : List NumberedPart) (q : NumberedPart) (shown : List (List Literal)) (over : Option Weighed) →
-    AllByRecursion (Contains t.rules) found → AllMeet t.signature s found → AreRemaining t.signature used None found (whole s) m parts → Contains parts q → IsShownOf t.signature s q.part.state shown over → ComparesWithin t.signature s q.part.state found over → IsUndecidedStep t s None shown over
+    AllByRecursion (Contains t.rules) found → AllMeet t.signature s found → AreUntaken t.signature used None found (whole s) m parts → Contains parts q → IsShownOf t.signature s q.part.state shown over → ComparesWithin t.signature s q.part.state found over → IsUndecidedStep t s None shown over
 open_remainder t used s m found parts q shown over members all l c shows compares = record {
   turns = found;
   of_theory = members;

@@ -28,7 +28,7 @@ use Rattle.kp_step.specs.Counted.{most_for, IsMost, IsCounted}
 use Rattle.kp_step.proofs.CountLemmas.{counted_for, most_of_none}
 use Rattle.kp_step.specs.Ready.{IsReadyState, IsWholeReady}
 use Rattle.kp_step.specs.Rules.{Steps, IsStepFrom}
-use Rattle.kp_step.specs.Remainders.{IsPartIn, AreRemaining, OneTakesAll}
+use Rattle.kp_step.specs.Remainders.{IsPartIn, AreUntaken, OneTakesAll}
 use Rattle.kp_step.specs.Found.{PlacedTurn, IsRuleAt, AreAllFound}
 use Rattle.kp_step.specs.Follows.{AreNextsOf, IsSolvedPart}
 use Rattle.kp_step.specs.Limits.{TermLimit, number, Passes, PassesNone, IsCaseMade, told_state, IsPassed}
@@ -69,7 +69,7 @@ open_at_all t s o told shows counted = record { rule = None; is_rule = tt; weigh
 
 -- ---- the remainder
 
-pub remainder_told : (t : Theory) (used : List Text) (s : SymbolicState) (q : NumberedPart) (found : List RewriteRule) (most : ℕ) (left : List NumberedPart) (d : decisions.Decided) → q.part ≡ whole s → AllByRecursion (Contains t.rules) found → AllMeet t.signature s found → IsMost t.signature s found most → AreRemaining t.signature used None found (whole s) (whole s) left →
+pub remainder_told : (t : Theory) (used : List Text) (s : SymbolicState) (q : NumberedPart) (found : List RewriteRule) (most : ℕ) (left : List NumberedPart) (d : decisions.Decided) → q.part ≡ whole s → AllByRecursion (Contains t.rules) found → AllMeet t.signature s found → IsMost t.signature s found most → AreUntaken t.signature used None found (whole s) (whole s) left →
     OneTakesAll t.signature found (q ∷ []) left → AreDecided t.signature s most left d → TellsRemainder t used s found d
 remainder_told t used s q found most left (decided.Parts ks) e members meet m l o k = record {
   left = kept_is_left t.signature used None found (whole s) (whole s) left (numbered_views ks.items) k l;
@@ -172,18 +172,18 @@ solved_by t used s g found qs rs e r k =
     remaining_solved t used s found qs rs (at (each_ready t.signature used (whole s) (whole s) qs r.left.each)) r
 
 -- all of the state is left to none
-pub all_left : (t : Theory) (used : List Text) (s : SymbolicState) (g : KoreSignature) (q : NumberedPart) (parts : List NumberedPart) → g ≡ t.signature → IsWholeReady t.signature used s q → parts ≡ q ∷ [] → AreRemaining g used None [] (whole s) (whole s) parts
+pub all_left : (t : Theory) (used : List Text) (s : SymbolicState) (g : KoreSignature) (q : NumberedPart) (parts : List NumberedPart) → g ≡ t.signature → IsWholeReady t.signature used s q → parts ≡ q ∷ [] → AreUntaken g used None [] (whole s) (whole s) parts
 all_left t used s g q parts e w is =
-    subst (λ h. AreRemaining h used None [] (whole s) (whole s) parts) (sym e)
-    (subst (AreRemaining t.signature used None [] (whole s) (whole s)) (sym is) (subst (λ p. AreRemaining t.signature used None [] p p (q ∷ [])) w.is (all_is_left t.signature used q w.ready)))
+    subst (λ h. AreUntaken h used None [] (whole s) (whole s) parts) (sym e)
+    (subst (AreUntaken t.signature used None [] (whole s) (whole s)) (sym is) (subst (λ p. AreUntaken t.signature used None [] p p (q ∷ [])) w.is (all_is_left t.signature used q w.ready)))
 
-pub ready_left : (g : KoreSignature) (used : List Text) (o : Option RewriteRule) (found : List RewriteRule) (s m : StatePart) (qs : List NumberedPart) → AreRemaining g used o found s m qs → AllByRecursion (IsReadyPart g used) qs
+pub ready_left : (g : KoreSignature) (used : List Text) (o : Option RewriteRule) (found : List RewriteRule) (s m : StatePart) (qs : List NumberedPart) → AreUntaken g used o found s m qs → AllByRecursion (IsReadyPart g used) qs
 ready_left g used o found s m qs l = each_ready g used s m qs l.each
 
-pub remainder_by : (t : Theory) (used : List Text) (s : SymbolicState) (g : KoreSignature) (q : NumberedPart) (found : List RewriteRule) (most : ℕ) (parts left : List NumberedPart) (d : decisions.Decided) (turns : List PlacedTurn) → g ≡ t.signature → IsWholeReady t.signature used s q → AllZip (IsRuleAt t) turns found → AllMeet t.signature s found → IsMost t.signature q.part.state found most → parts ≡ q ∷ [] → AreRemaining g used None found (whole s) (whole s) left →
+pub remainder_by : (t : Theory) (used : List Text) (s : SymbolicState) (g : KoreSignature) (q : NumberedPart) (found : List RewriteRule) (most : ℕ) (parts left : List NumberedPart) (d : decisions.Decided) (turns : List PlacedTurn) → g ≡ t.signature → IsWholeReady t.signature used s q → AllZip (IsRuleAt t) turns found → AllMeet t.signature s found → IsMost t.signature q.part.state found most → parts ≡ q ∷ [] → AreUntaken g used None found (whole s) (whole s) left →
     OneTakesAll g found parts left → AreDecided g q.part.state most left d → TellsRemainder t used s found d
 remainder_by t used s g q found most parts left d turns e w z meet m is l o k =
-    remainder_told t used s q found most left d w.is (rules_in_theory t turns found z) meet (subst (λ p. IsMost t.signature p.state found most) w.is m) (subst (λ h. AreRemaining h used None found (whole s) (whole s) left) e l)
+    remainder_told t used s q found most left d w.is (rules_in_theory t turns found z) meet (subst (λ p. IsMost t.signature p.state found most) w.is m) (subst (λ h. AreUntaken h used None found (whole s) (whole s) left) e l)
     (subst (λ xs. OneTakesAll t.signature found xs left) is (subst (λ h. OneTakesAll h found parts left) e o)) (subst (λ p. AreDecided t.signature p.state most left d) w.is (subst (λ h. AreDecided h q.part.state most left d) e k))
 
 pub told_remainder_open : (t : Theory) (used : List Text) (s : SymbolicState) (found : List RewriteRule) (o : UndecidedClauses) → TellsRemainder t used s found (decided.UndecidedClauses o) → IsToldUndecided t s (clauses_view o.shown.items) o.over None

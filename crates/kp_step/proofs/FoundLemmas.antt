@@ -16,7 +16,7 @@ use Rattle.kp_case_laws.specs.NextStates.{HaveOwnIds}
 use Rattle.kp_case_laws.proofs.TurnsFound.{no_part_no_turn, first_parts_are_turns}
 use Rattle.kp_step.specs.Places.{IsAt}
 use Rattle.kp_step.specs.ReadyParts.{parts_of}
-use Rattle.kp_step.specs.Remainders.{AreRemaining}
+use Rattle.kp_step.specs.Remainders.{AreUntaken}
 use Rattle.kp_step.specs.Found.{PlacedTurn, IsTurnAt, IsTurnAmong, IsTried, HaveOwnPlaces, AreFound, AreAllFound}
 
 -- ---- rules at places
@@ -112,7 +112,7 @@ turn_found t used s places turns k f new le i before = record {
 }
 
 -- where nothing is left to a rule, it has no turn
-pub nothing_left : (t : Theory) (used : List Text) (s m : StatePart) (before : List RewriteRule) (r : RewriteRule) → AllByRecursion (Contains t.rules) before → AreRemaining t.signature used (Some r) before s m [] → OfEachInstance t.signature s (λ w c. ¬ HasTurn t r c)
+pub nothing_left : (t : Theory) (used : List Text) (s m : StatePart) (before : List RewriteRule) (r : RewriteRule) → AllByRecursion (Contains t.rules) before → AreUntaken t.signature used (Some r) before s m [] → OfEachInstance t.signature s (λ w c. ¬ HasTurn t r c)
 nothing_left t used s m before r members l = no_part_no_turn t s before r members l.left
 
 -- all places were tried

@@ -24,7 +24,7 @@ use Rattle.kp_step.specs.ReadyParts.{IsReadyPart, HasInstance, parts_of}
 use Rattle.kp_step.specs.Comes.{itself}
 use Rattle.kp_step.specs.Silent.{IsFurther}
 use Rattle.kp_step.proofs.ComesLemmas.{comes_by_more, comes_further}
-use Rattle.kp_step.specs.Remainders.{IsPartIn, IsOneOf, IsOfThese, AreRemaining, RemainSoFar, AreKept, none_left, is_kept, falls_away}
+use Rattle.kp_step.specs.Remainders.{IsPartIn, IsOneOf, IsOfThese, AreUntaken, RemainSoFar, AreKept, none_left, is_kept, falls_away}
 
 both_parts : (xs ys : List NumberedPart) → parts_of (xs ++ ys) ≡ parts_of xs ++ parts_of ys
 both_parts xs ys = map-append (λ q. q.part) xs ys
@@ -40,7 +40,7 @@ grown_hand g used p r a = subst (λ ys. AreAtHand p.state.variables ys) (sym a.v
 -- ---- at first
 
 -- all of the state is left to none
-pub all_is_left : (g : KoreSignature) (used : List Text) (q : NumberedPart) → IsReadyPart g used q → AreRemaining g used None [] q.part q.part (q ∷ [])
+pub all_is_left : (g : KoreSignature) (used : List Text) (q : NumberedPart) → IsReadyPart g used q → AreUntaken g used None [] q.part q.part (q ∷ [])
 all_is_left g used q ready = record {
   left = left_to_none g q.part ready.told;
   each = (record { below = below_itself g q.part ready.told; at_hand = itself_at_hand q.part.state.variables; grown = grown_itself g used q.part; ready = ready }, tt);
@@ -48,7 +48,7 @@ all_is_left g used q ready = record {
 }
 
 -- where a rule fires is left to it
-pub firing_is_left : (g : KoreSignature) (used : List Text) (r : RewriteRule) (s m : StatePart) (q : NumberedPart) → AreWhere g (λ c. Fires g r.body c) s (q.part ∷ []) → IsPartIn g used s m q → IsOfThese g (Some r) [] s q → AreRemaining g used (Some r) [] s m (q ∷ [])
+pub firing_is_left : (g : KoreSignature) (used : List Text) (r : RewriteRule) (s m : StatePart) (q : NumberedPart) → AreWhere g (λ c. Fires g r.body c) s (q.part ∷ []) → IsPartIn g used s m q → IsOfThese g (Some r) [] s q → AreUntaken g used (Some r) [] s m (q ∷ [])
 firing_is_left g used r s m q fires at comes = record { left = left_to_rule g r s (q.part ∷ []) fires; each = (at, tt); comes = (comes, tt) }
 
 -- ---- while a rule takes
@@ -71,7 +71,7 @@ each_of_rule g used o turns q s r (p ∷ more) c f = (
   each_of_rule g used o turns q s r more c f.1,
 )
 
-pub rule_sets_out : (g : KoreSignature) (used : List Text) (o : Option RewriteRule) (turns : List RewriteRule) (q : RewriteRule) (s m : StatePart) (parts : List NumberedPart) → AreRemaining g used o turns s m parts → RemainSoFar g used o turns q s m [] parts
+pub rule_sets_out : (g : KoreSignature) (used : List Text) (o : Option RewriteRule) (turns : List RewriteRule) (q : RewriteRule) (s m : StatePart) (parts : List NumberedPart) → AreUntaken g used o turns s m parts → RemainSoFar g used o turns q s m [] parts
 rule_sets_out g used o turns q s m parts l = record {
   left = sets_out g (RemainsTo g o turns) (λ c. ¬ Fires g q.body c) s (parts_of parts) l.left;
   each_done = tt;
@@ -98,15 +98,15 @@ rule_goes_on g used o turns q s m done waiting more r l w f = record {
   comes_waiting = l.comes_waiting.1;
 }
 
-pub rule_arrives : (g : KoreSignature) (used : List Text) (o : Option RewriteRule) (turns : List RewriteRule) (q : RewriteRule) (s m : StatePart) (parts : List NumberedPart) → TakesFrom q o → RemainSoFar g used o turns q s m parts [] → AreRemaining g used o (turns ++ q ∷ []) s m parts
+pub rule_arrives : (g : KoreSignature) (used : List Text) (o : Option RewriteRule) (turns : List RewriteRule) (q : RewriteRule) (s m : StatePart) (parts : List NumberedPart) → TakesFrom q o → RemainSoFar g used o turns q s m parts [] → AreUntaken g used o (turns ++ q ∷ []) s m parts
 rule_arrives g used o turns q s m parts t l = record { left = less_is_left g o turns q s (parts_of parts) t l.left; each = l.each_done; comes = l.comes_done }
 
-pub rule_passes : (g : KoreSignature) (used : List Text) (o : Option RewriteRule) (turns : List RewriteRule) (q : RewriteRule) (s m : StatePart) (parts : List NumberedPart) → (¬ TakesFrom q o) → AreRemaining g used o turns s m parts → AreRemaining g used o (turns ++ q ∷ []) s m parts
+pub rule_passes : (g : KoreSignature) (used : List Text) (o : Option RewriteRule) (turns : List RewriteRule) (q : RewriteRule) (s m : StatePart) (parts : List NumberedPart) → (¬ TakesFrom q o) → AreUntaken g used o turns s m parts → AreUntaken g used o (turns ++ q ∷ []) s m parts
 rule_passes g used o turns q s m parts t l = record { left = as_much_is_left g o turns q s (parts_of parts) t l.left; each = l.each; comes = all_by_more g o turns q s parts l.comes }
 
 -- ---- parts without an instance
 
-drops_one : (g : KoreSignature) (used : List Text) (o : Option RewriteRule) (turns : List RewriteRule) (s m : StatePart) (before after : List NumberedPart) (q : NumberedPart) → HasNoInstance g q.part → AreRemaining g used o turns s m (before ++ q ∷ after) → AreRemaining g used o turns s m (before ++ after)
+drops_one : (g : KoreSignature) (used : List Text) (o : Option RewriteRule) (turns : List RewriteRule) (s m : StatePart) (before after : List NumberedPart) (q : NumberedPart) → HasNoInstance g q.part → AreUntaken g used o turns s m (before ++ q ∷ after) → AreUntaken g used o turns s m (before ++ after)
 drops_one g used o turns s m before after q none l = record {
   left = subst (AreWhere g (RemainsTo g o turns) s) (sym (both_parts before after))
       (drops_parts g (RemainsTo g o turns) s q.part (parts_of before) (parts_of after) none (subst (AreWhere g (RemainsTo g o turns) s) (both_parts before (q ∷ after)) l.left));
@@ -114,14 +114,14 @@ drops_one g used o turns s m before after q none l = record {
   comes = let These = IsOfThese g o turns s in all_both These before after (all_first These before (q ∷ after) l.comes) (all_second These before (q ∷ after) l.comes).1;
 }
 
-kept_behind : (g : KoreSignature) (used : List Text) (o : Option RewriteRule) (turns : List RewriteRule) (s m : StatePart) (before ps ks : List NumberedPart) → AreKept g ps ks → AreRemaining g used o turns s m (before ++ ps) → AreRemaining g used o turns s m (before ++ ks)
+kept_behind : (g : KoreSignature) (used : List Text) (o : Option RewriteRule) (turns : List RewriteRule) (s m : StatePart) (before ps ks : List NumberedPart) → AreKept g ps ks → AreUntaken g used o turns s m (before ++ ps) → AreUntaken g used o turns s m (before ++ ks)
 kept_behind g used o turns s m before _ _ none_left l = l
 kept_behind g used o turns s m before _ _ (is_kept q ps ks i k) l =
-    subst (AreRemaining g used o turns s m) (append_assoc before (q ∷ []) ks)
-    (kept_behind g used o turns s m (before ++ q ∷ []) ps ks k (subst (AreRemaining g used o turns s m) (sym (append_assoc before (q ∷ []) ps)) l))
+    subst (AreUntaken g used o turns s m) (append_assoc before (q ∷ []) ks)
+    (kept_behind g used o turns s m (before ++ q ∷ []) ps ks k (subst (AreUntaken g used o turns s m) (sym (append_assoc before (q ∷ []) ps)) l))
 kept_behind g used o turns s m before _ ks (falls_away q ps _ n k) l = kept_behind g used o turns s m before ps ks k (drops_one g used o turns s m before ps q n l)
 
-pub kept_is_left : (g : KoreSignature) (used : List Text) (o : Option RewriteRule) (turns : List RewriteRule) (s m : StatePart) (ps ks : List NumberedPart) → AreKept g ps ks → AreRemaining g used o turns s m ps → AreRemaining g used o turns s m ks
+pub kept_is_left : (g : KoreSignature) (used : List Text) (o : Option RewriteRule) (turns : List RewriteRule) (s m : StatePart) (ps ks : List NumberedPart) → AreKept g ps ks → AreUntaken g used o turns s m ps → AreUntaken g used o turns s m ks
 kept_is_left g used o turns s m ps ks k l = kept_behind g used o turns s m [] ps ks k l
 
 pub kept_have : (g : KoreSignature) (ps ks : List NumberedPart) → AreKept g ps ks → AllByRecursion (HasInstance g) (parts_of ks)

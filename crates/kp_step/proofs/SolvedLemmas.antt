@@ -17,7 +17,7 @@ use Rattle.kp_unify.specs.Narrowed.{NumberedPart}
 use Rattle.std.proofs.Common.{Option}
 use Rattle.kp_step.specs.Comes.{solved}
 use Rattle.kp_step.specs.ReadyParts.{HasInstance, parts_of}
-use Rattle.kp_step.specs.Remainders.{IsPartIn, IsOfThese, AreRemaining}
+use Rattle.kp_step.specs.Remainders.{IsPartIn, IsOfThese, AreUntaken}
 use Rattle.kp_step.specs.Follows.{IsSolvedPart}
 
 given : (g : KoreSignature) (used : List Text) (q r : NumberedPart) (w : Valuation) → IsSolvedPart g used q r → GivesSorts g w r.part.state.variables → GivesSorts g w q.part.state.variables
@@ -104,7 +104,7 @@ all_solved g used o turns s [] (r ∷ rs) k h = absurd k
 all_solved g used o turns s (q ∷ qs) [] k h = absurd k
 all_solved g used o turns s (q ∷ qs) (r ∷ rs) k h = (solved q.part r.part h.0 k.0.solving k.0.added, all_solved g used o turns s qs rs k.1 h.1)
 
-pub solved_left : (g : KoreSignature) (used : List Text) (o : Option RewriteRule) (turns : List RewriteRule) (s m : StatePart) (qs rs : List NumberedPart) → AllZip (IsSolvedPart g used) qs rs → AreRemaining g used o turns s m qs → AreRemaining g used o turns s m rs
+pub solved_left : (g : KoreSignature) (used : List Text) (o : Option RewriteRule) (turns : List RewriteRule) (s m : StatePart) (qs rs : List NumberedPart) → AllZip (IsSolvedPart g used) qs rs → AreUntaken g used o turns s m qs → AreUntaken g used o turns s m rs
 solved_left g used o turns s m qs rs k l = record { left = solved_where g used (RemainsTo g o turns) s qs rs k l.left; each = each_in g used s m qs rs k l.each; comes = all_solved g used o turns s qs rs k l.comes }
 
 pub solved_have : (g : KoreSignature) (used : List Text) (qs rs : List NumberedPart) → AllZip (IsSolvedPart g used) qs rs → AllByRecursion (HasInstance g) (parts_of qs) → AllByRecursion (HasInstance g) (parts_of rs)

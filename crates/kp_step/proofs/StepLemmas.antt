@@ -27,7 +27,7 @@ use Rattle.kp_case_laws.proofs.TurnsFound.{remainder_fires_none}
 use Rattle.kp_unify.specs.Narrowed.{NumberedPart}
 use Rattle.kp_step.specs.Places.{IsAt}
 use Rattle.kp_step.specs.ReadyParts.{HasInstance, parts_of}
-use Rattle.kp_step.specs.Remainders.{IsPartIn, AreRemaining}
+use Rattle.kp_step.specs.Remainders.{IsPartIn, AreUntaken}
 use Rattle.kp_step.specs.Found.{PlacedTurn, IsTurnAmong, AreAllFound}
 use Rattle.kp_step.specs.Follows.{PlacedNext, IsNextOf, IsNextAt, AreNextsOf}
 use Rattle.kp_step.proofs.RemainderLemmas.{grown_hand}
@@ -155,7 +155,7 @@ rest_hand g used s (q ∷ qs) a i = (remains_at_hand g used s q a.0 i.0, rest_ha
 -- ---- the step
 
 pub step_cases : (t : Theory) (used : List Text) (s : SymbolicState) (turns : List PlacedTurn) (ns : List PlacedNext) (rest : List NumberedPart) (f : AreAllFound t used (whole s) turns) (z : AreNextsOf t used (whole s) turns ns) → HaveOwnIds t.rules → OfEachInstance t.signature (whole s) (λ w c. ¬ IsUnknown t c) →
-    AreRemaining t.signature used None (rules_of (turns_of t used (whole s) turns turns f.each)) (whole s) (whole s) rest → AreStepCases t s (all_cases t used (whole s) turns turns ns f.each z ++ rest_cases rest)
+    AreUntaken t.signature used None (rules_of (turns_of t used (whole s) turns turns f.each)) (whole s) (whole s) rest → AreStepCases t s (all_cases t used (whole s) turns turns ns f.each z ++ rest_cases rest)
 step_cases t used s turns ns rest f z own known l = record {
   turns = turns_of t used (whole s) turns turns f.each;
   remainder = parts_of rest;

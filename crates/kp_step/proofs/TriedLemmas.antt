@@ -39,7 +39,7 @@ use Rattle.kp_step.proofs.SilentLemmas.{fires_nowhere_there}
 use Rattle.kp_step.specs.Places.{IsAt, IsReadAs, IsPriorityAt}
 use Rattle.kp_step.specs.Rules.{TellsRead}
 use Rattle.kp_step.specs.Ready.{IsWholeReady}
-use Rattle.kp_step.specs.Remainders.{IsPartIn, AreRemaining}
+use Rattle.kp_step.specs.Remainders.{IsPartIn, AreUntaken}
 use Rattle.kp_step.specs.Found.{PlacedTurn, IsRuleAt, IsMetIn, IsTurnAt}
 use Rattle.kp_step.specs.Limits.{TermLimit, number, Passes, IsPassed}
 use Rattle.kp_step.specs.Meets.{MeetsRule, AllMeet}
@@ -157,8 +157,8 @@ nothing_told t used s place found f left a parts i m nothing none =
     subst (λ ps. AreTurnParts t used s place found f.part.part (numbered_views ps)) (sym none) (nothing_there t used s place found f i there)
 
 -- where it fires, with nothing left out
-pub fires_at : (t : Theory) (used : List Text) (s : SymbolicState) (place : ℕ) (f : PlacedFiring) (g : KoreSignature) (q : NumberedPart) (i : IsFiringOf t used s place f) → g ≡ t.signature → q ≡ narrowed_of f → AreRemaining g used (Some i.rule) [] (whole s) f.part.part (q ∷ [])
-fires_at t used s place f g q i e same = subst (λ h. AreRemaining h used (Some i.rule) [] (whole s) f.part.part (q ∷ [])) (sym e) (subst (λ u. AreRemaining t.signature used (Some i.rule) [] (whole s) f.part.part (u ∷ [])) (sym same) (fires_there t used s place f i))
+pub fires_at : (t : Theory) (used : List Text) (s : SymbolicState) (place : ℕ) (f : PlacedFiring) (g : KoreSignature) (q : NumberedPart) (i : IsFiringOf t used s place f) → g ≡ t.signature → q ≡ narrowed_of f → AreUntaken g used (Some i.rule) [] (whole s) f.part.part (q ∷ [])
+fires_at t used s place f g q i e same = subst (λ h. AreUntaken h used (Some i.rule) [] (whole s) f.part.part (q ∷ [])) (sym e) (subst (λ u. AreUntaken t.signature used (Some i.rule) [] (whole s) f.part.part (u ∷ [])) (sym same) (fires_there t used s place f i))
 
 all_ready : (g : KoreSignature) (used : List Text) (s m : StatePart) (parts : List NumberedPart) → AllByRecursion (IsPartIn g used s m) parts → AllByRecursion (IsReadyPart g used) parts
 all_ready g used s m [] h = tt
@@ -166,10 +166,10 @@ all_ready g used s m (p ∷ parts) h = (h.0.ready, all_ready g used s m parts h.
 
 -- those that are left, as far as that is decided
 pub left_told : (t : Theory) (used : List Text) (s y : SymbolicState) (place : ℕ) (found : List RewriteRule) (f : PlacedFiring) (g : KoreSignature) (i : IsFiringOf t used s place f) (turns : List PlacedTurn) (most : ℕ) (parts : List NumberedPart) (d : decisions.Decided) → g ≡ t.signature → y ≡ s → AllZip (IsRuleAt t) turns found → MeetsRule t.signature s i.rule.body → AllMeet t.signature s found → IsMost t.signature y (i.rule ∷ found) most →
-    AreRemaining g used (Some i.rule) found (whole s) f.part.part parts → (AllByRecursion (IsReadyPart g used) parts → AreDecided g y most parts d) → TellsParts t used s place found f.part.part d
+    AreUntaken g used (Some i.rule) found (whole s) f.part.part parts → (AllByRecursion (IsReadyPart g used) parts → AreDecided g y most parts d) → TellsParts t used s place found f.part.part d
 left_told t used s y place found f g i turns most parts d e same z own all m l told =
     let k : AreDecided g y most parts d = told (all_ready g used (whole s) f.part.part parts l.each) in
-    parts_told t used s place found f i turns most parts d z own all (subst (λ x. IsMost t.signature x (i.rule ∷ found) most) same m) (subst (λ h. AreRemaining h used (Some i.rule) found (whole s) f.part.part parts) e l)
+    parts_told t used s place found f i turns most parts d z own all (subst (λ x. IsMost t.signature x (i.rule ∷ found) most) same m) (subst (λ h. AreUntaken h used (Some i.rule) found (whole s) f.part.part parts) e l)
     (subst (λ h. AreDecided h s most parts d) e (subst (λ x. AreDecided g x most parts d) same k))
 
 -- ---- its turn

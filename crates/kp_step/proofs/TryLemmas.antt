@@ -18,7 +18,7 @@ use Rattle.kp_case_laws.proofs.FiringLemmas.{firing_part}
 use Rattle.kp_step.specs.Places.{IsAt}
 use Rattle.kp_step.specs.ReadyParts.{narrowed_by}
 use Rattle.kp_step.proofs.ComesLemmas.{comes_by_more}
-use Rattle.kp_step.specs.Remainders.{IsOneOf, AreRemaining}
+use Rattle.kp_step.specs.Remainders.{IsOneOf, AreUntaken}
 use Rattle.kp_step.specs.Found.{PlacedTurn, IsRuleAt, IsTurnAmong}
 use Rattle.kp_step.specs.Tries.{PlacedFiring, IsFiringOf, AreTurnParts}
 use Rattle.kp_step.proofs.RemainderLemmas.{firing_is_left}
@@ -52,7 +52,7 @@ found_rules t used s all (k ∷ turns) h = ((h.0.turn.at, h.0.turn.number, h.0.t
 -- ---- one rule
 
 -- where it fires
-pub fires_there : (t : Theory) (used : List Text) (s : SymbolicState) (place : ℕ) (f : PlacedFiring) (i : IsFiringOf t used s place f) → AreRemaining t.signature used (Some i.rule) [] (whole s) f.part.part (narrowed_by f.part (f.equations ++ f.condition) ∷ [])
+pub fires_there : (t : Theory) (used : List Text) (s : SymbolicState) (place : ℕ) (f : PlacedFiring) (i : IsFiringOf t used s place f) → AreUntaken t.signature used (Some i.rule) [] (whole s) f.part.part (narrowed_by f.part (f.equations ++ f.condition) ∷ [])
 fires_there t used s place f i =
     let clauses = f.equations ++ f.condition in
     let r = with_clauses f.part.part clauses in
@@ -68,7 +68,7 @@ fires_there t used s place f i =
     (comes_by_more t.signature (λ b. b ≡ rewrite i.read) (IsOneOf (Some i.rule) []) (whole s) r (λ b e. (i.rule, inr refl, i.body ∙ sym e)) i.comes)
 
 -- where it fires nowhere, nothing is left to it, whatever the rules found before take
-pub nothing_for_it : (g : KoreSignature) (used : List Text) (r : RewriteRule) (found : List RewriteRule) (s m : StatePart) → AreRemaining g used (Some r) [] s m [] → AreRemaining g used (Some r) found s m []
+pub nothing_for_it : (g : KoreSignature) (used : List Text) (r : RewriteRule) (found : List RewriteRule) (s m : StatePart) → AreUntaken g used (Some r) [] s m [] → AreUntaken g used (Some r) found s m []
 nothing_for_it g used r found s m l = record {
   left = record { divided = divides_of_these g (FiresFirst g [] r) (FiresFirst g found r) s [] (λ c f. (f.0, tt)) l.left.divided; only = tt };
   each = tt;

@@ -19,7 +19,7 @@ use Rattle.kp_step.specs.Counted.{IsMost}
 use Rattle.kp_step.proofs.CountLemmas.{counted_for}
 use Rattle.kp_step.specs.Comes.{ComesFrom}
 use Rattle.kp_step.specs.Places.{IsAt}
-use Rattle.kp_step.specs.Remainders.{IsPartIn, AreRemaining, falls_away, none_left}
+use Rattle.kp_step.specs.Remainders.{IsPartIn, AreUntaken, falls_away, none_left}
 use Rattle.kp_step.specs.Found.{PlacedTurn, IsRuleAt, IsTurnAt}
 use Rattle.kp_step.specs.Limits.{TermLimit, Passes, IsPassed}
 use Rattle.kp_step.specs.Tries.{PlacedFiring, narrowed_of, IsFiringOf, CanMeet, AreTurnParts}
@@ -81,7 +81,7 @@ nothing_there t used s place found f i none =
 
 -- the parts that are left to it, as far as that is decided
 pub parts_told : (t : Theory) (used : List Text) (s : SymbolicState) (place : ℕ) (found : List RewriteRule) (f : PlacedFiring) (i : IsFiringOf t used s place f) (turns : List PlacedTurn) (most : ℕ) (parts : List NumberedPart) (d : decisions.Decided) → AllZip (IsRuleAt t) turns found → MeetsRule t.signature s i.rule.body → AllMeet t.signature s found → IsMost t.signature s (i.rule ∷ found) most →
-    AreRemaining t.signature used (Some i.rule) found (whole s) f.part.part parts → AreDecided t.signature s most parts d → TellsParts t used s place found f.part.part d
+    AreUntaken t.signature used (Some i.rule) found (whole s) f.part.part parts → AreDecided t.signature s most parts d → TellsParts t used s place found f.part.part d
 parts_told t used s place found f i turns most parts (decided.Parts ks) z own all m l k = record {
   rule = i.rule;
   at = i.at;

@@ -21,7 +21,7 @@ use Rattle.kp_step.specs.Counted.{most_for, IsCounted}
 use Rattle.kp_step.specs.declared.firing.Firing.{Firing}
 use Rattle.kp_step.specs.Places.{IsAt}
 use Rattle.kp_step.specs.ReadyParts.{HasInstance, parts_of}
-use Rattle.kp_step.specs.Remainders.{AreRemaining, AreKept}
+use Rattle.kp_step.specs.Remainders.{AreUntaken, AreKept}
 use Rattle.kp_step.specs.Found.{PlacedTurn, IsTurnAt, AreAllFound}
 use Rattle.kp_step.specs.Tries.{PlacedFiring, AreTurnParts, AreRemaining}
 use Rattle.kp_step.specs.Causes.{IsShownOf, IsUndecidedStep, MeetsForeign}
@@ -84,7 +84,7 @@ AreDecided g s most ps (decided.UndecidedClauses o) = (q : NumberedPart) × Cont
 
 -- Without the instances on which the rule q fires; where none is left, it fires on each.
 pub record AreWithout (g : KoreSignature) (used : List Text) (o : Option RewriteRule) (turns : List RewriteRule) (q : RewriteRule) (s m : StatePart) (parts left : List NumberedPart) : Type 0 where
-  pub are_left : AreRemaining g used o (turns ++ q ∷ []) s m left
+  pub are_left : AreUntaken g used o (turns ++ q ∷ []) s m left
   pub everywhere : AllByRecursion (HasNoInstance g) (parts_of left) → AllByRecursion (λ p. OfEachInstance g p (λ w c. Fires g q.body c)) (parts_of parts)
 
 -- ---- rules

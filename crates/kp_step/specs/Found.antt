@@ -20,7 +20,7 @@ use Rattle.kp_unify.specs.Narrowed.{NumberedPart}
 use Rattle.kp_step.specs.Meets.{MeetsRule, AllMeet, IsLaidBy}
 use Rattle.kp_step.specs.Places.{IsAt}
 use Rattle.kp_step.specs.ReadyParts.{HasInstance, parts_of}
-use Rattle.kp_step.specs.Remainders.{AreRemaining}
+use Rattle.kp_step.specs.Remainders.{AreUntaken}
 
 -- the rule of a place, its number, its parts, and what its variables stand for there
 pub record PlacedTurn : Type 0 where
@@ -61,7 +61,7 @@ pub record IsTurnAt (t : Theory) (used : List Text) (s : StatePart) (k : PlacedT
   pub of_theory : AllByRecursion (Contains t.rules) before
   pub meets : MeetsRule t.signature s.state rule.body
   pub before_meet : AllMeet t.signature s.state before
-  pub left : AreRemaining t.signature used (Some rule) before s met_part k.parts
+  pub left : AreUntaken t.signature used (Some rule) before s met_part k.parts
   pub some : ¬ (k.parts ≡ [])
   pub instances : AllByRecursion (HasInstance t.signature) (parts_of k.parts)
 

@@ -45,7 +45,7 @@ use Rattle.kp_step.specs.Places.{IsReadAs, IsPriorityAt}
 use Rattle.kp_step.specs.Meets.{MeetsRule, AllMeet}
 use Rattle.kp_step.specs.Ready.{IsReadyState, IsWholeReady}
 use Rattle.kp_step.specs.Limits.{Passes, PassesNone, IsPassed}
-use Rattle.kp_step.specs.Remainders.{IsPartIn, AreRemaining, IsNumberOf, OneTakesAll}
+use Rattle.kp_step.specs.Remainders.{IsPartIn, AreUntaken, IsNumberOf, OneTakesAll}
 use Rattle.kp_step.specs.Found.{PlacedTurn, IsRuleAt, IsMetIn, IsTurnAt, AreAllFound}
 use Rattle.kp_step.specs.Tries.{PlacedFiring, narrowed_of, IsLeftAt, IsFiringOf, CanMeet, AreTurnParts, AreRemaining}
 use Rattle.kp_step.specs.Follows.{IsNextOf, IsNextAt, AreNextsOf, IsSolvedPart}
@@ -127,43 +127,43 @@ TellsSkeletonMeets setting p k result =
 abbrev pub LeavesWithout : {E : Type 0} → Setting → List Part → ReadSides → Result (Vec Part Global) E → Type 0
 LeavesWithout setting parts sides result =
     (used : List Text) (o : Option RewriteRule) (turns : List RewriteRule) (q : RewriteRule) (m : Rewrite) (s p : StatePart) → let g = signature_of setting in
-    IsSetting used setting → q.body ≡ rewrite m → AreSidesOf g m sides → AreVerifiedSides g m → TakesFrom q o → AreRemaining g used o turns s p (numbered_views parts) →
+    IsSetting used setting → q.body ≡ rewrite m → AreSidesOf g m sides → AreVerifiedSides g m → TakesFrom q o → AreUntaken g used o turns s p (numbered_views parts) →
     IfOk result (λ left. AreWithout g used o turns q s p (numbered_views parts) (numbered_views left.items))
 
 -- what the rule of one more turn leaves of the parts
 abbrev pub LeavesBy : {E : Type 0} → Setting → RuleSet → Turn → Option ℕ → Vec Part Global → Result (Vec Part Global) E → Type 0
 LeavesBy setting rules turn priority parts result =
     (t : Theory) (used : List Text) (o : Option RewriteRule) (found : List RewriteRule) (q : RewriteRule) (s p : StatePart) → let g = signature_of setting in
-    Steps t setting rules → IsSetting used setting → IsNumberOf priority o → IsRuleAt t (turn_view turn) q → AreRemaining g used o found s p (numbered_views parts.items) →
-    IfOk result (λ left. AreRemaining g used o (found ++ q ∷ []) s p (numbered_views left.items))
+    Steps t setting rules → IsSetting used setting → IsNumberOf priority o → IsRuleAt t (turn_view turn) q → AreUntaken g used o found s p (numbered_views parts.items) →
+    IfOk result (λ left. AreUntaken g used o (found ++ q ∷ []) s p (numbered_views left.items))
 
 -- it fires on all of them, where it alone takes from them and leaves nothing
 abbrev pub TakesAllBy : {E : Type 0} → Setting → RuleSet → Turn → Option ℕ → Vec Part Global → Result (Vec Part Global) E → Type 0
 TakesAllBy setting rules turn priority parts result =
     (t : Theory) (used : List Text) (found : List RewriteRule) (q : RewriteRule) (s p : StatePart) → let g = signature_of setting in
-    Steps t setting rules → IsSetting used setting → priority ≡ None → IsRuleAt t (turn_view turn) q → AreRemaining g used None found s p (numbered_views parts.items) →
+    Steps t setting rules → IsSetting used setting → priority ≡ None → IsRuleAt t (turn_view turn) q → AreUntaken g used None found s p (numbered_views parts.items) →
     IfOk result (λ left. OneTakesAll g (q ∷ []) (numbered_views parts.items) (numbered_views left.items))
 
 -- what the rules of all turns leave of the parts
 abbrev pub LeavesAfter : {E : Type 0} → Setting → RuleSet → List Turn → Option ℕ → Vec Part Global → Result (Vec Part Global) E → Type 0
 LeavesAfter setting rules turns priority parts result =
     (t : Theory) (used : List Text) (o : Option RewriteRule) (found : List RewriteRule) (s p : StatePart) → let g = signature_of setting in
-    Steps t setting rules → IsSetting used setting → IsNumberOf priority o → AllZip (IsRuleAt t) (map turn_view turns) found → AreRemaining g used o [] s p (numbered_views parts.items) →
-    IfOk result (λ left. AreRemaining g used o found s p (numbered_views left.items))
+    Steps t setting rules → IsSetting used setting → IsNumberOf priority o → AllZip (IsRuleAt t) (map turn_view turns) found → AreUntaken g used o [] s p (numbered_views parts.items) →
+    IfOk result (λ left. AreUntaken g used o found s p (numbered_views left.items))
 
 -- the rule of the only turn fires on all of them, where it leaves nothing
 abbrev pub TakesAllAfter : {E : Type 0} → Setting → RuleSet → List Turn → Option ℕ → Vec Part Global → Result (Vec Part Global) E → Type 0
 TakesAllAfter setting rules turns priority parts result =
     (t : Theory) (used : List Text) (found : List RewriteRule) (s p : StatePart) → let g = signature_of setting in
-    Steps t setting rules → IsSetting used setting → priority ≡ None → AllZip (IsRuleAt t) (map turn_view turns) found → AreRemaining g used None [] s p (numbered_views parts.items) →
+    Steps t setting rules → IsSetting used setting → priority ≡ None → AllZip (IsRuleAt t) (map turn_view turns) found → AreUntaken g used None [] s p (numbered_views parts.items) →
     IfOk result (λ left. OneTakesAll g found (numbered_views parts.items) (numbered_views left.items))
 
 -- what they leave of the part to the rule of this number
 abbrev pub LeavesTo : {E : Type 0} → Setting → RuleSet → List Turn → ℕ → Part → Result (Vec Part Global) E → Type 0
 LeavesTo setting rules turns priority part result =
     (t : Theory) (used : List Text) (r : RewriteRule) (found : List RewriteRule) (s p : StatePart) → let g = signature_of setting in
-    Steps t setting rules → IsSetting used setting → r.priority ≡ priority → AllZip (IsRuleAt t) (map turn_view turns) found → AreRemaining g used (Some r) [] s p (numbered_view part ∷ []) →
-    IfOk result (λ left. AreRemaining g used (Some r) found s p (numbered_views left.items))
+    Steps t setting rules → IsSetting used setting → r.priority ≡ priority → AllZip (IsRuleAt t) (map turn_view turns) found → AreUntaken g used (Some r) [] s p (numbered_view part ∷ []) →
+    IfOk result (λ left. AreUntaken g used (Some r) found s p (numbered_views left.items))
 
 -- ---- turns
 

@@ -35,7 +35,7 @@ abbrev pub IsOfThese : KoreSignature → Option RewriteRule → List RewriteRule
 IsOfThese g o turns s q = ComesFrom g (IsOneOf o turns) s q.part
 
 -- the parts of s, all in m, that these rules leave to the rule, or to none
-pub record AreRemaining (g : KoreSignature) (used : List Text) (o : Option RewriteRule) (turns : List RewriteRule) (s m : StatePart) (parts : List NumberedPart) : Type 0 where
+pub record AreUntaken (g : KoreSignature) (used : List Text) (o : Option RewriteRule) (turns : List RewriteRule) (s m : StatePart) (parts : List NumberedPart) : Type 0 where
   pub left : AreWhere g (RemainsTo g o turns) s (parts_of parts)
   pub each : AllByRecursion (IsPartIn g used s m) parts
   pub comes : AllByRecursion (IsOfThese g o turns s) parts

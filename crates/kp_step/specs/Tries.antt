@@ -21,7 +21,7 @@ use Rattle.kp_step.specs.Meets.{MeetsRule}
 use Rattle.kp_step.specs.Places.{IsAt, IsReadAs}
 use Rattle.kp_step.specs.Comes.{ComesFrom}
 use Rattle.kp_step.specs.ReadyParts.{IsReadyPart, narrowed_by, HasInstance, parts_of}
-use Rattle.kp_step.specs.Remainders.{IsPartIn, AreRemaining}
+use Rattle.kp_step.specs.Remainders.{IsPartIn, AreUntaken}
 use Rattle.kp_step.specs.Found.{IsMetIn}
 
 -- the part that a rule's left side meets, the equations and the condition under which it fires there, what its variables stand
@@ -68,7 +68,7 @@ pub record CanMeet (t : Theory) (s : SymbolicState) (place : ℕ) (f : PlacedFir
 pub record AreTurnParts (t : Theory) (used : List Text) (s : SymbolicState) (place : ℕ) (found : List RewriteRule) (m : StatePart) (parts : List NumberedPart) : Type 0 where
   pub rule : RewriteRule
   pub at : IsAt t place rule
-  pub left : AreRemaining t.signature used (Some rule) found (whole s) m parts
+  pub left : AreUntaken t.signature used (Some rule) found (whole s) m parts
   pub instances : AllByRecursion (HasInstance t.signature) (parts_of parts)
 
 -- where one rule is found alone, and nothing remains, it fires on each instance
@@ -78,6 +78,6 @@ OneFiresOnAll t s found parts = ⊤
 
 -- these parts are what the rules found leave to none; each has an instance
 pub record AreRemaining (t : Theory) (used : List Text) (s : SymbolicState) (found : List RewriteRule) (parts : List NumberedPart) : Type 0 where
-  pub left : AreRemaining t.signature used None found (whole s) (whole s) parts
+  pub left : AreUntaken t.signature used None found (whole s) (whole s) parts
   pub instances : AllByRecursion (HasInstance t.signature) (parts_of parts)
   pub alone : OneFiresOnAll t s found parts

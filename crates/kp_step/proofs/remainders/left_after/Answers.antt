@@ -1,6 +1,6 @@
 use Rattle.std.proofs.Common.{rules, ◌≡◌, ◌≤◌, sym, ap, subst, ◌∙◌, take, length, None}
 use Rattle.kp_unify.specs.Views.{signature_of}
-use Rattle.kp_step.specs.Remainders.{IsNumberOf, AreRemaining, OneTakesAll}
+use Rattle.kp_step.specs.Remainders.{IsNumberOf, AreUntaken, OneTakesAll}
 use Rattle.kp_step.specs.Found.{IsRuleAt}
 use Rattle.kp_step.specs.Views.{numbered_views, turn_view}
 use Rattle.kp_step.proofs.LoopLemmas.{all_taken}
@@ -16,7 +16,7 @@ loop-turn-preserved c t used found s p steps setting z =
     let new = numbered_views c.in_ok-left.left.items in
     let x = zip_item (IsRuleAt t) turn_view c.args.turns.now found i c.turn-item.result c.loop-turn-test.true c.turn-item.is z in
     let was = c.loop-turn.invariant t used found s p steps setting z in (
-      (λ o n l. subst (λ fs. AreRemaining g used o fs s p new) (sym x.2) (c.in_ok-left.ensures.left t used o (take i found) x.0 s p steps setting n x.1 (was.0 o n l))),
+      (λ o n l. subst (λ fs. AreUntaken g used o fs s p new) (sym x.2) (c.in_ok-left.ensures.left t used o (take i found) x.0 s p steps setting n x.1 (was.0 o n l))),
       (λ none l. (
         (λ e. absurd (some_found (take i found) x.0 (sym x.2 ∙ e))),
         subst (λ fs. OneTakesAll g fs parts new) (sym x.2)
@@ -36,4 +36,4 @@ returns-clause-left c t used o found s p steps setting number z l =
     let g = signature_of c.args.setting in
     let past : length c.args.turns.now ≤ c.loop-turn.turn-index = search rules in
     let all : take c.loop-turn.turn-index found ≡ found = all_taken found c.loop-turn.turn-index (subst (λ n. n ≤ c.loop-turn.turn-index) (sym (zip_length (IsRuleAt t) turn_view c.args.turns.now found z)) past) in
-    subst (λ fs. AreRemaining g used o fs s p (numbered_views c.loop-turn.left.items)) all ((c.loop-turn.invariant t used found s p steps setting z).0 o number l)
+    subst (λ fs. AreUntaken g used o fs s p (numbered_views c.loop-turn.left.items)) all ((c.loop-turn.invariant t used found s p steps setting z).0 o number l)

@@ -2,7 +2,7 @@ use Rattle.std.proofs.Common.{rules, ◌≡◌, sym, subst, [], ◌∷◌, None}
 use Rattle.std.specs.Option.{option_map}
 use Rattle.kp_unify.specs.Views.{signature_of}
 use Rattle.kp_step.specs.Rules.{TellsRead, IsReadAt}
-use Rattle.kp_step.specs.Remainders.{AreRemaining, OneTakesAll}
+use Rattle.kp_step.specs.Remainders.{AreUntaken, OneTakesAll}
 use Rattle.kp_step.specs.Views.{numbered_views}
 use Rattle.kp_satisfiability.proofs.Answered.{if_ok}
 use Rattle.kp_step.proofs.OneSortLemmas.{so_false}
@@ -23,7 +23,7 @@ returns-in-Some-clause-alone c t used found q s p steps setting none rule l =
     let x = reads t c.args.setting c.args.rules.now place w q steps told rule.0 in
     let seen : numbered_views c.deref.result.now ≡ numbered_views c.args.parts.items = search rules in
     if_ok c.without.result _ _ (λ left e. subst (λ ps. OneTakesAll (signature_of c.args.setting) (q ∷ []) ps (numbered_views left.items)) seen e.everywhere)
-    (c.without.ensures used None found q x.read s p setting x.body x.sides x.verified tt (subst (AreRemaining (signature_of c.args.setting) used None found s p) (sym seen) l))
+    (c.without.ensures used None found q x.read s p setting x.body x.sides x.verified tt (subst (AreUntaken (signature_of c.args.setting) used None found s p) (sym seen) l))
 
 pub returns-in-Some-clause-left : goal.returns-in-Some-clause-left
 returns-in-Some-clause-left c t used o found q s p steps setting number rule l =
@@ -33,4 +33,4 @@ returns-in-Some-clause-left c t used o found q s p steps setting number rule l =
     let x = reads t c.args.setting c.args.rules.now place w q steps told rule.0 in
     let takes = takes_by_test c.takes.result c.args.turn.now.priority c.args.priority q o c.takes.ensures number rule.1 c.if-not-takes.false in
     let seen : numbered_views c.deref.result.now ≡ numbered_views c.args.parts.items = search rules in
-    if_ok c.without.result _ _ (λ left e. e.are_left) (c.without.ensures used o found q x.read s p setting x.body x.sides x.verified takes (subst (AreRemaining (signature_of c.args.setting) used o found s p) (sym seen) l))
+    if_ok c.without.result _ _ (λ left e. e.are_left) (c.without.ensures used o found q x.read s p setting x.body x.sides x.verified takes (subst (AreUntaken (signature_of c.args.setting) used o found s p) (sym seen) l))

@@ -10,7 +10,7 @@ use Rattle.kp_case_laws.specs.Firing.{HasNoInstance}
 use Rattle.kp_case_laws.specs.Turns.{TakesFrom}
 use Rattle.kp_unify.specs.Views.{signature_of, IsSetting}
 use Rattle.kp_step.specs.ReadyParts.{parts_of}
-use Rattle.kp_step.specs.Remainders.{AreRemaining, RemainSoFar}
+use Rattle.kp_step.specs.Remainders.{AreUntaken, RemainSoFar}
 use Rattle.kp_step.specs.Views.{numbered_views}
 use Rattle.kp_step.proofs.remainders.without.Given as goal
 
@@ -18,6 +18,6 @@ use Rattle.kp_step.proofs.remainders.without.Given as goal
 abbrev pub invariant-loop-part : goal.invariant-loop-part
 invariant-loop-part l =
     (used : List Text) (o : Option RewriteRule) (turns : List RewriteRule) (q : RewriteRule) (m : Rewrite) (s p : StatePart) → let g = signature_of l.setting in
-    IsSetting used l.setting → q.body ≡ rewrite m → AreSidesOf g m l.sides → AreVerifiedSides g m → TakesFrom q o → AreRemaining g used o turns s p (numbered_views l.parts) →
+    IsSetting used l.setting → q.body ≡ rewrite m → AreSidesOf g m l.sides → AreVerifiedSides g m → TakesFrom q o → AreUntaken g used o turns s p (numbered_views l.parts) →
     RemainSoFar g used o turns q s p (numbered_views l.found.items) (numbered_views (drop l.part-index l.parts))
     × (AllByRecursion (HasNoInstance g) (parts_of (numbered_views l.found.items)) → AllByRecursion (λ r. OfEachInstance g r (λ w c. Fires g q.body c)) (parts_of (numbered_views (take l.part-index l.parts))))
