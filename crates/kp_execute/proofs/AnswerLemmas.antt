@@ -50,7 +50,7 @@ use Rattle.kp_execute.specs.declared.ending.Run.{Run}
 use Rattle.kp_execute.specs.Written.{AreWritten, IsIdAt, IsEndWritten, pattern_of}
 use Rattle.kp_execute.specs.Told.{IsReadRight}
 use Rattle.kp_execute.specs.Known.{Begins, IsRunOf, EndsWith, EndsUndecided}
-use Rattle.kp_execute.specs.Answers.{IsUndecidedBy, call_of, by_clauses, by_weight, by_number, IsFirstTold, IsEndedRun, IsUndecidedRun, IsRightAnswer, aborted_with}
+use Rattle.kp_execute.specs.Answers.{IsUndecidedBy, call_of, by_clauses, by_weight, by_number, IsLeftAtBound, IsFirstTold, IsEndedRun, IsUndecidedRun, IsRightAnswer, aborted_with}
 use Rattle.kp_execute.proofs.JoinedLemmas.{state_pattern}
 use Rattle.kp_execute.proofs.NextLemmas.{parts_pattern}
 use Rattle.kp_execute.proofs.EndLemmas.{Stands, stands, leads, at_hand}
@@ -100,11 +100,25 @@ never_foreign t s (CutPoint next) e xs w = subst (IsFirstTold t s) (sym w.3) tt
 never_foreign t s (Terminal place) e xs w = subst (IsFirstTold t s) (sym w.2) tt
 never_foreign t s (Aborted why) e xs w = absurd w
 
+-- another reason isn't the bound
+not_bound : (t : Theory) (s : SymbolicState) (e is : Ending) → e ≡ is → ¬ (is ≡ parts.depth_bound) → IsLeftAtBound t s e
+not_bound t s e is same other h = absurd (other (sym same ∙ h))
+
+bound_left : (t : Theory) (o : Options) (used : List Text) (first s : SymbolicState) (d : ℕ) (ending : runs.Ending) (e : Ending) (xs : List NextParts) → IsRightEnding t o used first d s ending → IsEndWritten t ending e xs → IsLeftAtBound t s e
+bound_left t o used first s d Vacuous e xs h w = not_bound t s e parts.vacuous w.0 (λ k. cc)
+bound_left t o used first s d DepthBound e xs h w = λ k. h.2
+bound_left t o used first s d (Stuck remainder) e xs h w = not_bound t s e parts.stuck w.0 (λ k. cc)
+bound_left t o used first s d (Branching nexts remainder) e xs h w = not_bound t s e parts.branching w.0 (λ k. cc)
+bound_left t o used first s d (CutPoint next) e xs h w = not_bound t s e (parts.cut_point w.2.rule.id) w.3 (λ k. cc)
+bound_left t o used first s d (Terminal place) e xs h w = not_bound t s e (parts.terminal w.0.id) w.2 (λ k. cc)
+bound_left t o used first s d (Aborted why) e xs h w = absurd w
+
 pub ended_right : (t : Theory) (o : Options) (request : KorePattern) (x : ExecutedParts) (e : EndsWith t o request x) → IsComputed t.signature (pattern_of (state_view e.whole.state).sort x.state) → IsEndedRun t o request x
 ended_right t o request x e computed = let r = e.whole in let h = e.run in record {
   state = state_view r.state;
   written = e.written.state;
   means = says_right t o h.used request h.first r x (record { own_ids = h.own_ids; request_of = h.request_of; run = h.run; told = e.told; written = e.written; computed = computed });
+  bound = bound_left t o h.used h.first (state_view r.state) r.depth r.ending x.ending x.nexts h.run.ending e.written.end;
   first = never_foreign t (state_view r.state) r.ending x.ending x.nexts e.written.end;
   order = end_in_order t r.ending x.ending x.nexts e.written.end e.order;
 }
@@ -170,6 +184,7 @@ foreign_right t o request r x place id h at =
           reason = (e.1, subst (λ i. IsShown t request p (foreign i)) same (foreign_shown t request p now m.rule (at_hand t h.run.used request p h.run.first now r.depth s (m.meets.valuation, m.meets.sorts)) m.meets));
         };
       };
+      bound = not_bound t now (parts.aborted (foreign id)) (parts.aborted (foreign id)) refl (λ k. cc);
       first = (place, at.0, at.1, at.2, m);
       order = tt;
     }

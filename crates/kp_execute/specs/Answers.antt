@@ -1,6 +1,6 @@
 -- What execute answers of a pattern: the result of a run, or what isn't decided of a state of it; and why it refuses one.
 -- Source: the K Haskell backend's JSON-RPC documentation (execute: the seven reasons); what is left open is this project's.
-use Rattle.std.specs.Prelude.{◌≡◌, ◌≢◌, ◌<◌, ℕ, ℤ, suc, List, [], Option, Some, None, string_bytes, ⊤}
+use Rattle.std.specs.Prelude.{◌≡◌, ◌≢◌, ◌⊎◌, ◌<◌, ℕ, ℤ, suc, List, [], Option, Some, None, string_bytes, ⊤}
 use Rattle.kp_kore.specs.Syntax.{Text, KorePattern}
 use Rattle.kp_kore.specs.Signature.{KoreSignature, injection, meaning_of}
 use Rattle.kp_kore.specs.Rules.{RewriteRule}
@@ -17,16 +17,19 @@ use Rattle.kp_symbolic.specs.States.{Literal, SymbolicState}
 use Rattle.kp_symbolic.specs.Verdicts.{Weighed}
 use Rattle.kp_limits.specs.Wide.{WideCall}
 use Rattle.kp_results.specs.Results as parts
-use Rattle.kp_results.specs.Results.{StateParts, Ending, aborted, ExecutedParts, Undecided}
+use Rattle.kp_results.specs.Results.{StateParts, Ending, depth_bound, aborted, ExecutedParts, Undecided}
 use Rattle.kp_results.specs.View as results
 use Rattle.kp_simplify.specs.Told.{parts_of_call, parts_of_weight}
+use Rattle.kp_case_laws.specs.Parts.{whole}
 use Rattle.kp_case_laws.specs.NextStates.{IsPatternOf}
+use Rattle.kp_step.specs.ReadyParts.{HasInstance}
 use Rattle.kp_step.specs.Places.{IsAt}
 use Rattle.kp_step.specs.Causes.{IsUndecidedStep, IsFirstMet}
 use Rattle.kp_step.specs.RightSteps.{IsToldRule}
 use Rattle.kp_step.specs.Limits as limits
 use Rattle.kp_step.specs.Limits.{IsPassed}
 use Rattle.kp_execute.specs.Laws.{MeansRight}
+use Rattle.kp_execute.specs.Endings.{IsUndecided}
 use Rattle.kp_execute.specs.Order.{AreInOrder}
 use Rattle.kp_execute.specs.Written.{AreWritten, IsStateWritten, pattern_of}
 use Rattle.kp_execute.specs.declared.answer.Answer.{Answer}
@@ -70,11 +73,16 @@ abbrev pub IsFirstTold : Theory → SymbolicState → Ending → Type 0
 IsFirstTold t s (aborted (foreign id)) = (place : ℕ) × (r : RewriteRule) × IsAt t place r × (id ≡ r.id) × IsFirstMet t s place
 IsFirstTold t s ending = ⊤
 
+-- a state at the bound has an instance, or that isn't decided: clauses that aren't plain, or that pass a weight
+abbrev pub IsLeftAtBound : Theory → SymbolicState → Ending → Type 0
+IsLeftAtBound t s ending = ending ≡ depth_bound → HasInstance t.signature (whole s) ⊎ IsUndecided t.signature s
+
 -- the parts are a right result of the run, whose state is written so; the next states stand in their rules' turns
 pub record IsEndedRun (t : Theory) (o : Options) (request : KorePattern) (x : ExecutedParts) : Type 0 where
   pub state : SymbolicState
   pub written : IsStateWritten t.signature state x.state
   pub means : MeansRight t o request x
+  pub bound : IsLeftAtBound t state x.ending
   pub first : IsFirstTold t state x.ending
   pub order : AreInOrder t x.nexts
 
