@@ -133,6 +133,7 @@ proved_holds names before after c status old gained label one p b a has =
       there = p.there;
       modules = p.modules;
       spells = p.spells;
+      faultless = p.faultless;
       claim = f.claim;
       is_spelled = f.is_spelled;
       labelled = f.labelled;
