@@ -116,6 +116,7 @@ bound_left t o used first s d (Aborted why) e xs h w = absurd w
 pub ended_right : (t : Theory) (o : Options) (request : KorePattern) (x : ExecutedParts) (e : EndsWith t o request x) → IsComputed t.signature (pattern_of (state_view e.whole.state).sort x.state) → IsEndedRun t o request x
 ended_right t o request x e computed = let r = e.whole in let h = e.run in record {
   state = state_view r.state;
+  of_run = record { run = r; is_run = h; is_last = refl };
   written = e.written.state;
   means = says_right t o h.used request h.first r x (record { own_ids = h.own_ids; request_of = h.request_of; run = h.run; told = e.told; written = e.written; computed = computed });
   bound = bound_left t o h.used h.first (state_view r.state) r.depth r.ending x.ending x.nexts h.run.ending e.written.end;
@@ -146,6 +147,7 @@ open_right t o request r x why u h by =
     let e = ending_of t o request r x why h in
     record {
       state = now;
+      of_run = record { run = r; is_run = h.run; is_last = refl };
       below = e.1;
       written = h.written;
       same = s.last_pattern;
@@ -172,6 +174,7 @@ foreign_right t o request r x place id h at =
     let same : m.rule.id ≡ id = ap (λ q. q.id) (one_at t place m.rule at.0 m.at at.1) ∙ sym at.2 in
     record {
       state = now;
+      of_run = record { run = r; is_run = h.run; is_last = refl };
       written = h.written;
       means = record {
         result = record { depth = r.depth; reason = theory.aborted (foreign id); state = p };

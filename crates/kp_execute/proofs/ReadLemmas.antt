@@ -41,4 +41,4 @@ read_ready g used p s h names =
 pub read_request : (g : KoreSignature) (used : List Text) (p : KorePattern) (s : SymbolicState) → IsReadRight g p s → ((x : Text) → list_any (bytes_eq x) used ≡ false → IsAbsent x p) → IsRequestOf g used p s
 read_request g used p s h free =
     let both = read_kept g h.place p s h.verified h.known h.predicates h.read h.kept in
-    record { read = both.1; in_use = free }
+    record { read = both.1; read_as = h.read; in_use = free }

@@ -28,6 +28,9 @@ use Rattle.kp_step.specs.Causes.{IsUndecidedStep, IsFirstMet}
 use Rattle.kp_step.specs.RightSteps.{IsToldRule}
 use Rattle.kp_step.specs.Limits as limits
 use Rattle.kp_step.specs.Limits.{IsPassed}
+use Rattle.kp_symbolic.specs.View.{state_view}
+use Rattle.kp_execute.specs.Known.{IsRunOf}
+use Rattle.kp_execute.specs.declared.ending.Run.{Run}
 use Rattle.kp_execute.specs.Laws.{MeansRight}
 use Rattle.kp_execute.specs.Endings.{IsUndecided}
 use Rattle.kp_execute.specs.Order.{AreInOrder}
@@ -73,13 +76,20 @@ abbrev pub IsFirstTold : Theory → SymbolicState → Ending → Type 0
 IsFirstTold t s (aborted (foreign id)) = (place : ℕ) × (r : RewriteRule) × IsAt t place r × (id ≡ r.id) × IsFirstMet t s place
 IsFirstTold t s ending = ⊤
 
+-- the last state of a right run from the state that the request is read as
+pub record IsLastOfRun (t : Theory) (o : Options) (request : KorePattern) (state : SymbolicState) : Type 0 where
+  pub run : Run
+  pub is_run : IsRunOf t o request run
+  pub is_last : state ≡ state_view run.state
+
 -- a state at the bound has an instance, or that isn't decided: clauses that aren't plain, or that pass a weight
 abbrev pub IsLeftAtBound : Theory → SymbolicState → Ending → Type 0
 IsLeftAtBound t s ending = ending ≡ depth_bound → HasInstance t.signature (whole s) ⊎ IsUndecided t.signature s
 
--- the parts are a right result of the run, whose state is written so; the next states stand in their rules' turns
+-- the parts are a right result of the run, whose last state is written so; the next states stand in their rules' turns
 pub record IsEndedRun (t : Theory) (o : Options) (request : KorePattern) (x : ExecutedParts) : Type 0 where
   pub state : SymbolicState
+  pub of_run : IsLastOfRun t o request state
   pub written : IsStateWritten t.signature state x.state
   pub means : MeansRight t o request x
   pub bound : IsLeftAtBound t state x.ending
@@ -90,6 +100,7 @@ pub record IsEndedRun (t : Theory) (o : Options) (request : KorePattern) (x : Ex
 -- rule; and of this state something isn't decided
 pub record IsUndecidedRun (t : Theory) (o : Options) (request : KorePattern) (d : ℕ) (x : StateParts) (u : Undecided) : Type 0 where
   pub state : SymbolicState
+  pub of_run : IsLastOfRun t o request state
   pub below : d < o.bound
   pub written : IsStateWritten t.signature state x
   pub same : IsPatternOf t.signature (pattern_of state.sort x) state

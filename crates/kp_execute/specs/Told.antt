@@ -37,9 +37,10 @@ IsToldEnd t (Branching nexts remainder) = AreTold t nexts.items remainder.items
 IsToldEnd t (CutPoint next) = AreTold t (next ∷ []) []
 IsToldEnd t ending = ⊤
 
--- the request is read as the state s, and each name that stands in it is in use
+-- the request is read as the state s, which has its instances, and each name that stands in it is in use
 pub record IsRequestOf (g : KoreSignature) (used : List Text) (request : KorePattern) (s : SymbolicState) : Type 0 where
   pub read : HasInstancesOf g request s
+  pub read_as : IsReadAs g request s
   pub in_use : (x : Text) → list_any (bytes_eq x) used ≡ false → IsAbsent x request
 
 -- a verified pattern of one term and predicates, read as the state; its large clauses can be written
