@@ -29,7 +29,7 @@ use Rattle.kp_case_laws.specs.NextStates.{StepCase, IsPatternOf}
 use Rattle.kp_case_laws.proofs.AtHandLemmas.{of_hand, sorts_of_hand, agree_of_hand, hand_in_hand, agree_itself, member_named, Joined, joined_hand}
 use Rattle.kp_case_laws.proofs.LoneRule.{alone, has_turn_alone}
 use Rattle.kp_case_laws.proofs.AloneSteps.{good, steps_on}
-use Rattle.kp_case_laws.specs.Runs.{StateLeads, StatePasses, StateReaches, HasRunTo, RunEndsBy}
+use Rattle.kp_case_laws.specs.Runs.{StateLeads, StatePasses, IsByOne, StateReaches, HasRunTo, RunEndsBy}
 use Rattle.kp_case_laws.specs.RunLaws.{IsAloneBy, AreEndsOf}
 
 -- ---- a run begins
@@ -60,6 +60,7 @@ pub begins : (t : Theory) (used : List Text) (s : SymbolicState) → HasRunTo t 
 begins t used s = record {
   leads = leads_nowhere t s;
   reached = λ n e. absurd (no_step_before n e);
+  by_one = λ n less. none_less n less;
   grown = grown_itself t.signature used (whole s);
 }
 
@@ -95,18 +96,6 @@ instance_of_first t s later d r k used leads a =
     let c = leads.only w i.1 sorts met in
     record { valuation = w; first = c.0; sorts = sorts_of_hand t.signature w s.variables later.variables leads.at_hand sorts; met = c.1; last = i.1; steps = c.2 }
 
-pub goes_on : (t : Theory) (used : List Text) (s later : SymbolicState) (d : ℕ) (r : RewriteRule) (k : StepCase) → HasRunTo t used s later d → IsAloneBy t used later r k → HasRunTo t used s k.next (suc d)
-goes_on t used s later d r k run a = record {
-  leads = joined t s later k.next d run.leads (steps_on t later r k a.cases a.hand a.by_rule);
-  reached = λ n e. subst (StateReaches t s) (same_before d n e) (instance_of_first t s later d r k used run.leads a);
-  grown = grown_further t.signature used (whole s) (whole later) (whole k.next) run.grown a.grown;
-}
-  where
-    same_before : (d n : ℕ) → suc d ≡ suc n → d ≡ n
-    same_before d n e = omega (arith, e)
-
--- ---- what is passed
-
 less_or_same : (n d : ℕ) → n < suc d → (n < d) ⊎ (n ≡ d)
 less_or_same zero zero h = inr refl
 less_or_same zero (suc d) h = inl (omega arith)
@@ -117,6 +106,26 @@ alone_here : (t : Theory) (used : List Text) (s later : SymbolicState) (d : ℕ)
 alone_here t used s later d r k leads a w c sorts met e steps =
     let x : (x : Valuation) × Extends t.signature s.variables later.variables w x × IsStateInstance t.signature x later e = leads.found w c sorts met e steps in
     has_turn_alone t later k r a.cases a.by_rule a.of_theory a.fires x.0 e x.1.sorts x.2
+
+-- one step more is by the rule that the later state goes on by
+by_one_more : (t : Theory) (used : List Text) (s later : SymbolicState) (d : ℕ) (r : RewriteRule) (k : StepCase) → HasRunTo t used s later d → IsAloneBy t used later r k → IsByOne t s (suc d)
+by_one_more t used s later d r k run a n less = elim (less_or_same n d less) [
+  | inl b ↦ run.by_one n b
+  | inr b ↦ (r.id, λ w c sorts met e steps. alone_here t used s later d r k run.leads a w c sorts met e (subst (λ m. StepsIn t m c e) b steps))
+]
+
+pub goes_on : (t : Theory) (used : List Text) (s later : SymbolicState) (d : ℕ) (r : RewriteRule) (k : StepCase) → HasRunTo t used s later d → IsAloneBy t used later r k → HasRunTo t used s k.next (suc d)
+goes_on t used s later d r k run a = record {
+  leads = joined t s later k.next d run.leads (steps_on t later r k a.cases a.hand a.by_rule);
+  reached = λ n e. subst (StateReaches t s) (same_before d n e) (instance_of_first t s later d r k used run.leads a);
+  by_one = by_one_more t used s later d r k run a;
+  grown = grown_further t.signature used (whole s) (whole later) (whole k.next) run.grown a.grown;
+}
+  where
+    same_before : (d n : ℕ) → suc d ≡ suc n → d ≡ n
+    same_before d n e = omega (arith, e)
+
+-- ---- what is passed
 
 not_final : (t : Theory) (r : RewriteRule) (e : Value) → Contains t.rules r → Fires t.signature r.body e → ¬ IsUnknown t e → ¬ IsFinal t e
 not_final t r e m f u (inl h) = u h
@@ -160,6 +169,9 @@ passes_as_pattern t listed p s d of all h = record {
   not_final = λ v c given met n e less steps. let sorts = sorts_at t p s v all given.0 in h.not_final v c sorts ((of.instances v c sorts).0 met) n e less steps;
   none_listed = λ v c given met n e less steps. let sorts = sorts_at t p s v all given.0 in h.none_listed v c sorts ((of.instances v c sorts).0 met) n e less steps;
 }
+
+pub by_one_as_pattern : (t : Theory) (p : KorePattern) (s : SymbolicState) (d : ℕ) → IsPatternOf t.signature p s → AreAtHand s.variables (free_variables p) → IsByOne t s d → (n : ℕ) → n < d → (id : Text) × OfEach t.signature [] p (λ v c. (later : Value) → StepsIn t n c later → HasTurnAlone t id later)
+by_one_as_pattern t p s d of all h n less = let one = h n less in (one.0, λ v c given met later steps. let sorts = sorts_at t p s v all given.0 in one.1 v c sorts ((of.instances v c sorts).0 met) later steps)
 
 pub reaches_as_pattern : (t : Theory) (p : KorePattern) (s : SymbolicState) (n : ℕ) → IsPatternOf t.signature p s → StateReaches t s n → OfSome t.signature [] p (λ v c. (later : Value) × StepsIn t n c later)
 reaches_as_pattern t p s n of h = record {

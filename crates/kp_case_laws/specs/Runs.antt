@@ -27,6 +27,10 @@ pub record StatePasses (t : Theory) (listed : List Text) (s : SymbolicState) (d 
   pub not_final : OfEachInstance t.signature (whole s) (λ w c. (n : ℕ) (e : Value) → n < d → StepsIn t n c e → ¬ IsFinal t e)
   pub none_listed : OfEachInstance t.signature (whole s) (λ w c. (n : ℕ) (e : Value) → n < d → StepsIn t n c e → NoneListed t listed e)
 
+-- fewer than d steps after the instances one rule alone has its turn, at each depth the same for all
+abbrev pub IsByOne : Theory → SymbolicState → ℕ → Type 0
+IsByOne t s d = (n : ℕ) → n < d → (id : Text) × OfEachInstance t.signature (whole s) (λ w c. (e : Value) → StepsIn t n c e → HasTurnAlone t id e)
+
 -- some instance goes on for so many steps
 pub record StateReaches (t : Theory) (s : SymbolicState) (d : ℕ) : Type 0 where
   pub valuation : Valuation
@@ -36,10 +40,11 @@ pub record StateReaches (t : Theory) (s : SymbolicState) (d : ℕ) : Type 0 wher
   pub last : Value
   pub steps : StepsIn t d first last
 
--- the run of s has come to the later state
+-- the run of s has come to the later state, each time by one rule
 pub record HasRunTo (t : Theory) (used : List Text) (s later : SymbolicState) (d : ℕ) : Type 0 where
   pub leads : StateLeads t s later d
   pub reached : (n : ℕ) → d ≡ suc n → StateReaches t s n
+  pub by_one : IsByOne t s d
   pub grown : IsGrown t.signature used (whole s) (whole later)
 
 -- one step before the end the rule of this id has its turn alone; nothing before is final or listed

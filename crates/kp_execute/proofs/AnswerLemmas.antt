@@ -50,11 +50,11 @@ use Rattle.kp_execute.specs.declared.ending.Run.{Run}
 use Rattle.kp_execute.specs.Written.{AreWritten, IsIdAt, IsEndWritten, pattern_of}
 use Rattle.kp_execute.specs.Told.{IsReadRight}
 use Rattle.kp_execute.specs.Known.{Begins, IsRunOf, EndsWith, EndsUndecided}
-use Rattle.kp_execute.specs.Answers.{IsUndecidedBy, call_of, by_clauses, by_weight, by_number, IsLeftAtBound, IsFirstTold, IsEndedRun, IsUndecidedRun, IsRightAnswer, aborted_with}
+use Rattle.kp_execute.specs.Answers.{IsUndecidedBy, call_of, by_clauses, by_weight, by_number, PassesByOne, IsLeftAtBound, IsFirstTold, IsEndedRun, IsUndecidedRun, IsRightAnswer, aborted_with}
 use Rattle.kp_execute.proofs.JoinedLemmas.{state_pattern}
 use Rattle.kp_execute.proofs.NextLemmas.{parts_pattern}
 use Rattle.kp_execute.proofs.EndLemmas.{Stands, stands, leads, at_hand}
-use Rattle.kp_execute.proofs.ReasonLemmas.{passes}
+use Rattle.kp_execute.proofs.ReasonLemmas.{passes, by_one}
 use Rattle.kp_execute.proofs.OrderLemmas.{end_in_order}
 use Rattle.kp_execute.proofs.ResultLemmas.{says_right}
 use Rattle.kp_execute.proofs.ReadLemmas.{read_ready, read_request}
@@ -113,12 +113,19 @@ bound_left t o used first s d (CutPoint next) e xs h w = not_bound t s e (parts.
 bound_left t o used first s d (Terminal place) e xs h w = not_bound t s e (parts.terminal w.0.id) w.2 (λ k. cc)
 bound_left t o used first s d (Aborted why) e xs h w = absurd w
 
+stands_written : (t : Theory) (o : Options) (request : KorePattern) (x : ExecutedParts) (e : EndsWith t o request x) → Stands t e.run.used request (pattern_of (state_view e.whole.state).sort x.state) e.run.first (state_view e.whole.state) e.whole.depth
+stands_written t o request x e =
+    let now = state_view e.whole.state in
+    let safe : IsSafe t.signature now = e.run.run.ready.safe in
+    stands t e.run.used request (pattern_of now.sort x.state) e.run.first now e.whole.depth e.run.request_of e.run.run.run (state_pattern t.signature now x.state safe e.written.state) safe.sorted.one_sort_each
+
 pub ended_right : (t : Theory) (o : Options) (request : KorePattern) (x : ExecutedParts) (e : EndsWith t o request x) → IsComputed t.signature (pattern_of (state_view e.whole.state).sort x.state) → IsEndedRun t o request x
 ended_right t o request x e computed = let r = e.whole in let h = e.run in record {
   state = state_view r.state;
   of_run = record { run = r; is_run = h; is_last = refl };
   written = e.written.state;
   means = says_right t o h.used request h.first r x (record { own_ids = h.own_ids; request_of = h.request_of; run = h.run; told = e.told; written = e.written; computed = computed });
+  by_one = subst (PassesByOne t request) (sym e.written.depth) (by_one t h.used request (pattern_of (state_view r.state).sort x.state) h.first (state_view r.state) r.depth (stands_written t o request x e));
   bound = bound_left t o h.used h.first (state_view r.state) r.depth r.ending x.ending x.nexts h.run.ending e.written.end;
   first = never_foreign t (state_view r.state) r.ending x.ending x.nexts e.written.end;
   order = end_in_order t r.ending x.ending x.nexts e.written.end e.order;
@@ -153,6 +160,7 @@ open_right t o request r x why u h by =
       same = s.last_pattern;
       leads = leads t h.run.used request p h.run.first now r.depth s;
       passes = passes t o h.run.used request p h.run.first now r.depth s e.0;
+      by_one = by_one t h.run.used request p h.run.first now r.depth s;
       reached = λ n is. reaches_as_pattern t request h.run.first n s.first_pattern (h.run.run.run.reached n is);
       computed = h.computed;
       open_by = by;
@@ -187,6 +195,7 @@ foreign_right t o request r x place id h at =
           reason = (e.1, subst (λ i. IsShown t request p (foreign i)) same (foreign_shown t request p now m.rule (at_hand t h.run.used request p h.run.first now r.depth s (m.meets.valuation, m.meets.sorts)) m.meets));
         };
       };
+      by_one = by_one t h.run.used request p h.run.first now r.depth s;
       bound = not_bound t now (parts.aborted (foreign id)) (parts.aborted (foreign id)) refl (λ k. cc);
       first = (place, at.0, at.1, at.2, m);
       order = tt;

@@ -1,13 +1,15 @@
 -- Each of the six reasons is right of the patterns.
-use Rattle.std.proofs.Common.{◌≡◌, refl, sym, ap, ◌∙◌, subst, inl, inr, arith, ℕ, zero, suc, List, [], ◌∷◌, ◌++◌, Some, None}
+use Rattle.std.proofs.Common.{◌≡◌, refl, sym, ap, ◌∙◌, subst, inl, inr, arith, ℕ, zero, suc, ◌<◌, List, [], ◌∷◌, ◌++◌, Some, None}
 use Rattle.std.specs.List.{AllByRecursion, AllZip, Contains}
 use Rattle.std.proofs.lemmas.List.Elements.{Contains-append_left, Contains-append_right}
 use Rattle.kp_kore.specs.Syntax.{Text, KorePattern}
 use Rattle.kp_kore.specs.Signature.{KoreSignature}
-use Rattle.kp_kore.specs.AtHand.{HasSome}
+use Rattle.kp_kore.specs.AtHand.{HasSome, OfEach}
 use Rattle.kp_kore.specs.Rules.{RewriteRule}
 use Rattle.kp_kore.specs.Theory.{Theory}
-use Rattle.kp_kore.specs.Cases.{NextState}
+use Rattle.kp_kore.specs.Steps.{StepsIn}
+use Rattle.kp_kore.specs.Value.{Value}
+use Rattle.kp_kore.specs.Cases.{NextState, HasTurnAlone}
 use Rattle.kp_kore.specs.Causes.{IsDecided}
 use Rattle.kp_kore.specs.Onward.{Passes}
 use Rattle.kp_kore.specs.Executions as theory
@@ -22,7 +24,7 @@ use Rattle.kp_case_laws.specs.Runs.{StatePasses}
 use Rattle.kp_case_laws.specs.RunLaws.{IsAloneBy}
 use Rattle.kp_case_laws.specs.EndLaws.{id_of_case}
 use Rattle.kp_case_laws.proofs.AtHandLemmas.{sorts_of_hand, hand_in_hand}
-use Rattle.kp_case_laws.proofs.RunLaws.{passes_as_pattern, ends_as_pattern}
+use Rattle.kp_case_laws.proofs.RunLaws.{passes_as_pattern, by_one_as_pattern, ends_as_pattern}
 use Rattle.kp_case_laws.proofs.EndLaws.{says_some, says_none, says_stuck, says_branching, says_cut_point}
 use Rattle.kp_unify.specs.declared.part.Part.{Part}
 use Rattle.kp_step.specs.Places.{IsAt}
@@ -42,6 +44,9 @@ use Rattle.kp_execute.proofs.EndLemmas.{Stands, leads, at_hand}
 
 pub passes : (t : Theory) (o : Options) (used : List Text) (request p : KorePattern) (first now : SymbolicState) (d : ℕ) → Stands t used request p first now d → StatePasses t (listed_in o) first d → Passes t (listed_in o) request d
 passes t o used request p first now d s h = passes_as_pattern t (listed_in o) request first d s.first_pattern s.all h
+
+pub by_one : (t : Theory) (used : List Text) (request p : KorePattern) (first now : SymbolicState) (d : ℕ) → Stands t used request p first now d → (n : ℕ) → n < d → (id : Text) × OfEach t.signature [] request (λ v c. (later : Value) → StepsIn t n c later → HasTurnAlone t id later)
+by_one t used request p first now d s = by_one_as_pattern t request first d s.first_pattern s.all s.run.by_one
 
 -- ---- no instance
 

@@ -7,7 +7,9 @@ use Rattle.kp_kore.specs.Rules.{RewriteRule}
 use Rattle.kp_kore.specs.Theory.{Theory}
 use Rattle.kp_kore.specs.Steps.{StepsIn}
 use Rattle.kp_kore.specs.Replies.{IsComputed}
-use Rattle.kp_kore.specs.AtHand.{OfSome}
+use Rattle.kp_kore.specs.Value.{Value}
+use Rattle.kp_kore.specs.AtHand.{OfEach, OfSome}
+use Rattle.kp_kore.specs.Cases.{HasTurnAlone}
 use Rattle.kp_kore.specs.Onward.{Leads, Passes}
 use Rattle.kp_kore.specs.Causes.{foreign}
 use Rattle.kp_kore.specs.Executions.{Options, listed_in}
@@ -82,16 +84,22 @@ pub record IsLastOfRun (t : Theory) (o : Options) (request : KorePattern) (state
   pub is_run : IsRunOf t o request run
   pub is_last : state ≡ state_view run.state
 
+-- each step that the run passed is by one rule alone: nothing remains, and no other rule has its turn
+abbrev pub PassesByOne : Theory → KorePattern → ℕ → Type 0
+PassesByOne t request d = (n : ℕ) → n < d → (id : Text) × OfEach t.signature [] request (λ v c. (later : Value) → StepsIn t n c later → HasTurnAlone t id later)
+
 -- a state at the bound has an instance, or that isn't decided: clauses that aren't plain, or that pass a weight
 abbrev pub IsLeftAtBound : Theory → SymbolicState → Ending → Type 0
 IsLeftAtBound t s ending = ending ≡ depth_bound → HasInstance t.signature (whole s) ⊎ IsUndecided t.signature s
 
--- the parts are a right result of the run, whose last state is written so; the next states stand in their rules' turns
+-- the parts are a right result of the run, whose last state is written so; each step was by one rule, and the next states stand in
+-- their rules' turns
 pub record IsEndedRun (t : Theory) (o : Options) (request : KorePattern) (x : ExecutedParts) : Type 0 where
   pub state : SymbolicState
   pub of_run : IsLastOfRun t o request state
   pub written : IsStateWritten t.signature state x.state
   pub means : MeansRight t o request x
+  pub by_one : PassesByOne t request x.depth
   pub bound : IsLeftAtBound t state x.ending
   pub first : IsFirstTold t state x.ending
   pub order : AreInOrder t x.nexts
@@ -106,6 +114,7 @@ pub record IsUndecidedRun (t : Theory) (o : Options) (request : KorePattern) (d 
   pub same : IsPatternOf t.signature (pattern_of state.sort x) state
   pub leads : Leads t request (pattern_of state.sort x) d
   pub passes : Passes t (listed_in o) request d
+  pub by_one : PassesByOne t request d
   pub reached : (n : ℕ) → d ≡ suc n → OfSome t.signature [] request (λ v c. (later : _) × StepsIn t n c later)
   pub computed : IsComputed t.signature (pattern_of state.sort x)
   pub open_by : IsUndecidedBy t state u
