@@ -1,5 +1,5 @@
 -- What is left open of a part is a cause of the step's end.
-use Rattle.std.proofs.Common.{◌≡◌, sym, ap, subst, arith, ℕ, zero, suc, ◌<◌, get_or, List, [], ◌∷◌, Option, Some, None, inl, inr}
+use Rattle.std.proofs.Common.{◌≡◌, refl, sym, ap, subst, arith, ℕ, zero, suc, ◌<◌, get_or, List, [], ◌∷◌, Option, Some, None, inl, inr}
 use Rattle.std.specs.List.{AllByRecursion, Contains}
 use Rattle.std.proofs.lemmas.List.Elements.{Contains-push, Contains-append_left, Contains-append_right, Contains-append_cases}
 use Rattle.kp_kore.specs.Syntax.{Text}
@@ -21,7 +21,7 @@ use Rattle.kp_step.specs.Meets.{MeetsRule, AllMeet}
 use Rattle.kp_step.specs.Counted.{ComparesWithin}
 use Rattle.kp_step.proofs.MeetLemmas.{one_of_these_meets, only_it}
 use Rattle.kp_step.specs.Remainders.{IsOneOf, IsOfThese, AreUntaken}
-use Rattle.kp_step.specs.Causes.{MayRewrite, IsAsked, IsShownOf, IsUndecidedStep}
+use Rattle.kp_step.specs.Causes.{MayRewrite, IsAsked, IsShownOf, AreAllBefore, IsUndecidedStep}
 
 part_among : (ps : List NumberedPart) (q : NumberedPart) → Contains ps q → Contains (parts_of ps) q.part
 part_among [] q c = let none = c.1 in absurd (omega (arith, none))
@@ -49,16 +49,17 @@ open_state t s shown over told shows compares = record {
   parts = whole s ∷ [];
   asked = left_to_none t.signature (whole s) told;
   part = whole s;
+  first = inl (refl, refl);
   among = Contains-push [] (whole s);
   comes = itself;
   shows = shows;
   compares = compares;
 }
 
--- of a part that rules leave to a rule
+-- of a part that rules leave to a rule, where those before it are all
 pub undecided_rule : (t : Theory) (used : List Text) (s : SymbolicState) (m : StatePart) (r : RewriteRule) (read : Rewrite) (found : List RewriteRule) (parts : List NumberedPart) (q : NumberedPart) (shown : List (List Literal)) (over : Option Weighed) →
-    r.body ≡ rewrite read → AllByRecursion (Contains t.rules) found → MeetsRule t.signature s r.body → AllMeet t.signature s found → AreUntaken t.signature used (Some r) found (whole s) m parts → Contains parts q → IsShownOf t.signature s q.part.state shown over → ComparesWithin t.signature s q.part.state (r ∷ found) over → IsUndecidedStep t s (Some r) shown over
-undecided_rule t used s m r read found parts q shown over body members own all l c shows compares = record {
+    r.body ≡ rewrite read → AllByRecursion (Contains t.rules) found → MeetsRule t.signature s r.body → AllMeet t.signature s found → AreUntaken t.signature used (Some r) found (whole s) m parts → Contains parts q → IsShownOf t.signature s q.part.state shown over → ComparesWithin t.signature s q.part.state (r ∷ found) over → AreAllBefore t s (Some r) found → IsUndecidedStep t s (Some r) shown over
+undecided_rule t used s m r read found parts q shown over body members own all l c shows compares first = record {
   turns = found;
   of_theory = members;
   meets = one_of_these_meets t.signature s (Some r) found (only_it t.signature s r own) all;
@@ -66,22 +67,24 @@ undecided_rule t used s m r read found parts q shown over body members own all l
   asked = said_otherwise t.signature (RemainsTo t.signature (Some r) found) (IsAsked t.signature (Some r) found) (whole s) (parts_of parts)
       (λ w d h k. ((λ f. (subst (λ b. MayRewrite t.signature b d) (sym body) (subst (λ b. Fires t.signature b d) body f.0), f.1)), (λ a. (subst (λ b. Fires t.signature b d) (sym body) (subst (λ b. MayRewrite t.signature b d) body a.0), a.1)))) l.left;
   part = q.part;
+  first = inr first;
   among = part_among parts q c;
   comes = of_member (IsOfThese t.signature (Some r) found (whole s)) parts q l.comes c;
   shows = shows;
   compares = compares;
 }
 
--- of a part that they leave to none
+-- of a part that they leave to none, where they are all
 pub open_remainder : (t : Theory) (used : List Text) (s : SymbolicState) (m : StatePart) (found : List RewriteRule) (parts : List NumberedPart) (q : NumberedPart) (shown : List (List Literal)) (over : Option Weighed) →
-    AllByRecursion (Contains t.rules) found → AllMeet t.signature s found → AreUntaken t.signature used None found (whole s) m parts → Contains parts q → IsShownOf t.signature s q.part.state shown over → ComparesWithin t.signature s q.part.state found over → IsUndecidedStep t s None shown over
-open_remainder t used s m found parts q shown over members all l c shows compares = record {
+    AllByRecursion (Contains t.rules) found → AllMeet t.signature s found → AreUntaken t.signature used None found (whole s) m parts → Contains parts q → IsShownOf t.signature s q.part.state shown over → ComparesWithin t.signature s q.part.state found over → AreAllBefore t s None found → IsUndecidedStep t s None shown over
+open_remainder t used s m found parts q shown over members all l c shows compares first = record {
   turns = found;
   of_theory = members;
   meets = one_of_these_meets t.signature s None found (λ r e. absurd (cc)) all;
   parts = parts_of parts;
   asked = l.left;
   part = q.part;
+  first = inr first;
   among = part_among parts q c;
   comes = of_member (IsOfThese t.signature None found (whole s)) parts q l.comes c;
   shows = shows;
@@ -99,6 +102,7 @@ open_foreign t s r left p shown over body own d comes shows compares = record {
   asked = said_otherwise t.signature (λ c. IsUnknownBy t.signature r.body c) (IsAsked t.signature (Some r) []) (whole s) (p ∷ [])
       (λ w e h k. ((λ u. (subst (λ b. MayRewrite t.signature b e) (sym body) (subst (λ b. IsUnknownBy t.signature b e) body u), tt)), (λ a. subst (λ b. IsUnknownBy t.signature b e) (sym body) (subst (λ b. MayRewrite t.signature b e) body a.0)))) d;
   part = p;
+  first = inl (refl, left, body);
   among = Contains-push [] p;
   comes = comes;
   shows = shows;

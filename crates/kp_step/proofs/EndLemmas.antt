@@ -13,7 +13,7 @@ use Rattle.kp_kore.specs.Steps.{IsUnknown, AnyByRecursion}
 use Rattle.kp_symbolic.specs.States.{SymbolicState}
 use Rattle.kp_symbolic.specs.View.{clauses_view}
 use Rattle.kp_case_laws.specs.Parts.{StatePart, whole, OfEachInstance, IsTold}
-use Rattle.kp_case_laws.specs.Turns.{rules_of}
+use Rattle.kp_case_laws.specs.Turns.{AreAllTurns, rules_of}
 use Rattle.kp_case_laws.specs.NextStates.{StepCase, HaveOwnIds}
 use Rattle.kp_unify.specs.Narrowed.{NumberedPart}
 use Rattle.kp_unify.specs.declared.part.Part.{Part}
@@ -186,8 +186,8 @@ remainder_by t used s g q found most parts left d turns e w z meet m is l o k =
     remainder_told t used s q found most left d w.is (rules_in_theory t turns found z) meet (subst (λ p. IsMost t.signature p.state found most) w.is m) (subst (λ h. AreUntaken h used None found (whole s) (whole s) left) e l)
     (subst (λ xs. OneTakesAll t.signature found xs left) is (subst (λ h. OneTakesAll h found parts left) e o)) (subst (λ p. AreDecided t.signature p.state most left d) w.is (subst (λ h. AreDecided h q.part.state most left d) e k))
 
-pub told_remainder_open : (t : Theory) (used : List Text) (s : SymbolicState) (found : List RewriteRule) (o : UndecidedClauses) → TellsRemainder t used s found (decided.UndecidedClauses o) → IsToldUndecided t s (clauses_view o.shown.items) o.over None
-told_remainder_open t used s found o k = record { rule = None; is_rule = tt; weight = k.0; weighed = k.1; what_is_undecided = k.2 }
+pub told_remainder_open : (t : Theory) (used : List Text) (s : SymbolicState) (found : List RewriteRule) (o : UndecidedClauses) → TellsRemainder t used s found (decided.UndecidedClauses o) → AreAllTurns t (whole s) found → IsToldUndecided t s (clauses_view o.shown.items) o.over None
+told_remainder_open t used s found o k all = record { rule = None; is_rule = tt; weight = k.0; weighed = k.1; what_is_undecided = k.2 (λ w c sorts met q member goes turn. all w c sorts met q member turn) }
 
 -- ---- the state itself
 

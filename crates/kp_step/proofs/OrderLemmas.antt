@@ -106,6 +106,27 @@ no_greater t rules i j q r m n runs a b e f behind_it =
     let y : number_of (slice_get rules.rules.items j) ≡ r.priority = number_at rules j k.code k.there ∙ read_number t rules j r n runs b f k in
     omega (arith, less, x, y)
 
+-- one of a smaller number stands ahead
+pub smaller_ahead : (t : Theory) (rules : RuleSet) (before after : List ℕ) (i j : ℕ) (q r : RewriteRule) (m n : Rewrite) → RunsAs t rules → InTurn rules (before ++ j ∷ after) → IsAt t i q → IsAt t j r → q.body ≡ rewrite m → r.body ≡ rewrite n → q.priority < r.priority → (i ≡ j → q ≡ r) → Contains before i
+smaller_ahead t rules before after i j q r m n runs turn a b e f less same = elim (Contains-append_cases before (j ∷ after) i (each_is_there t rules (before ++ j ∷ after) i q runs turn a)) [
+  | inl c ↦ c
+  | inr c ↦ elim (Contains-append_cases (j ∷ []) after i c) [
+    | inl o ↦ absurd (not_itself (same (only o)))
+    | inr d ↦ absurd (not_behind d)
+  ]
+]
+  where
+    only : Contains (j ∷ []) i → i ≡ j
+    only o = of_member (λ x. x ≡ j) (j ∷ []) i (refl, tt) o
+
+    not_itself : q ≡ r → ⊥
+    not_itself d = let s : q.priority ≡ r.priority = ap (λ x. x.priority) d in omega (arith, less, s)
+
+    not_behind : Contains after i → ⊥
+    not_behind d =
+        let le : r.priority ≤ q.priority = no_greater t rules j i r q n m runs b a f e (of_member (λ x. goes_before rules.rules.items x j ≡ false) after i (behind rules.rules.items before after j turn.ordered) d) in
+        omega (arith, less, le)
+
 -- those turns that are found at places ahead have no greater number
 pub numbers_ahead : (t : Theory) (used : List Text) (s : StatePart) (rules : RuleSet) (before after : List ℕ) (all turns : List PlacedTurn) (k : PlacedTurn) → RunsAs t rules → InTurn rules (before ++ k.place ∷ after) → AllByRecursion (IsTurnAmong t used s all) turns → AllByRecursion (λ n. Contains before n.place) turns →
     IsTurnAt t used s k → AllByRecursion (λ n. n.priority ≤ k.priority) turns

@@ -1,13 +1,13 @@
 -- Loops over parts, turns and places, one step at a time.
-use Rattle.std.proofs.Common.{◌≡◌, refl, sym, ap, subst, ◌∙◌, ℕ, ◌+◌, ◌<◌, ◌≤◌, List, [], ◌∷◌, ◌++◌, map, length, get_or, take, drop}
+use Rattle.std.proofs.Common.{◌≡◌, ◌⊎◌, inl, inr, refl, sym, ap, subst, ◌∙◌, ℕ, ◌+◌, ◌<◌, ◌≤◌, List, [], ◌∷◌, ◌++◌, map, length, get_or, take, drop}
 use Rattle.std.specs.List.{AllByRecursion, AllZip, Contains}
 use Rattle.std.proofs.lemmas.List.{map-append, append-nil}
 use Rattle.kp_kore.specs.Syntax.{Text}
 use Rattle.kp_kore.specs.Signature.{KoreSignature}
-use Rattle.kp_kore.specs.Rules.{RewriteRule}
+use Rattle.kp_kore.specs.Rules.{RewriteRule, RuleBody, rewrite, foreign_rule}
 use Rattle.kp_kore.specs.Theory.{Theory}
-use Rattle.kp_kore.specs.Steps.{HasTurn}
-use Rattle.kp_kore.proofs.TurnLemmas.{each_member}
+use Rattle.kp_kore.specs.Steps.{Fires, HasTurn, AnyByRecursion}
+use Rattle.kp_kore.proofs.TurnLemmas.{each_member, of_member}
 use Rattle.kp_symbolic.specs.States.{SymbolicState}
 use Rattle.kp_satisfiability.specs.Read.{HasSortedClauses}
 use Rattle.kp_rule_sets.specs.RuleSets.{RunsAs}
@@ -20,17 +20,17 @@ use Rattle.kp_unify.specs.declared.part.Part.{Part}
 use Rattle.kp_step.specs.ReadyParts.{IsReadyPart, HasInstance}
 use Rattle.kp_step.specs.Places.{IsAt}
 use Rattle.kp_step.specs.Remainders.{AreKept, none_left}
-use Rattle.kp_step.specs.Found.{PlacedTurn, IsTurnAt, AreFound, AreAllFound}
+use Rattle.kp_step.specs.Found.{PlacedTurn, IsTurnAt, IsTried, AreTriedBefore, AreFound, AreAllFound}
 use Rattle.kp_step.specs.Answers.{ShowsOf}
 use Rattle.kp_step.specs.Counted.{IsCounted}
 use Rattle.kp_step.specs.Follows.{IsSolvedPart}
 use Rattle.kp_step.specs.Views.{numbered_views, turn_view}
 use Rattle.kp_step.specs.declared.turns.Turn.{Turn}
 use Rattle.kp_step.specs.declared.part_answers.UndecidedClauses.{UndecidedClauses}
-use Rattle.kp_step.proofs.FoundLemmas.{no_turn_found, turn_found, all_found}
+use Rattle.kp_step.proofs.FoundLemmas.{one_at, no_turn_found, turn_found, all_found}
 use Rattle.kp_step.proofs.RemainderLemmas.{kept_more, kept_less}
 use Rattle.kp_step.proofs.LoopLemmas.{taken, all_taken, split_there}
-use Rattle.kp_step.proofs.OrderLemmas.{InTurn, each_is_there, none_comes_again, numbers_ahead}
+use Rattle.kp_step.proofs.OrderLemmas.{InTurn, each_is_there, none_comes_again, smaller_ahead, numbers_ahead}
 use Rattle.kp_step.proofs.SortedLemmas.{sorted_clauses}
 use Rattle.kp_step.proofs.AskedLemmas.{instance_there}
 
@@ -128,6 +128,19 @@ finds_turn t used s rules places i place turns new k runs turn h e n p f j befor
     (subst (λ xs. AreFound t used (whole s) xs (map turn_view turns ++ turn_view k ∷ [])) (sym more)
     (turn_found t used (whole s) ahead (map turn_view turns) (turn_view k) f (none_comes_again rules ahead (drop (i + 1) places) (turn_view k).place instance_there)
     (numbers_ahead t used (whole s) rules ahead (drop (i + 1) places) (map turn_view turns) (map turn_view turns) (turn_view k) runs instance_there f.each f.among j) j before))
+
+-- a rule of a smaller number than that of the place was tried
+pub tried_before : (t : Theory) (used : List Text) (s : SymbolicState) (rules : RuleSet) (places : List ℕ) (i place : ℕ) (turns : List PlacedTurn) → RunsAs t rules → InTurn rules places → i < length places → place ≡ get_or places i place → FoundAt t used s places i turns → AreTriedBefore t (whole s) turns place
+tried_before t used s rules places i place turns runs turn h e f r m at body j q there less = by q.body refl
+  where
+    IsOfTurn : Type 0
+    IsOfTurn = AnyByRecursion (λ k. k.place ≡ j) turns ⊎ OfEachInstance t.signature (whole s) (λ w c. ¬ HasTurn t q c)
+
+    by : (b : RuleBody) → q.body ≡ b → IsOfTurn
+    by (foreign_rule l) is = inr (λ w c sorts met has. subst (λ b. Fires t.signature b c) is has.fires)
+    by (rewrite n) is =
+        let ahead = smaller_ahead t rules (take i places) (drop (i + 1) places) j place q r n m runs (subst (InTurn rules) (split_there places i place h e) turn) there at is body less (λ d. one_at t place q r (subst (λ k. IsAt t k q) d there) at) in
+        of_member (IsTried t (whole s) turns) (take i places) j f.tried ahead q there
 
 pub finds_all : (t : Theory) (used : List Text) (s : SymbolicState) (rules : RuleSet) (places : List ℕ) (i : ℕ) (turns : List PlacedTurn) → RunsAs t rules → InTurn rules places → length places ≤ i → FoundAt t used s places i turns → AreAllFound t used (whole s) turns
 finds_all t used s rules places i turns runs turn past f =

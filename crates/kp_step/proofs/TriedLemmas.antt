@@ -3,11 +3,12 @@ use Rattle.std.proofs.Common.{◌≡◌, refl, sym, ap, subst, ◌∙◌, arith,
 use Rattle.std.specs.List.{AllByRecursion, AllZip, Contains}
 use Rattle.std.specs.Option.{option_map}
 use Rattle.std.proofs.lemmas.Bool.Decides.{Decides-eqb}
+use Rattle.std.proofs.lemmas.List.Elements.{Contains-push, Contains-append_left, Contains-append_right}
 use Rattle.kp_kore.specs.Syntax.{Text}
 use Rattle.kp_kore.specs.Signature.{KoreSignature}
 use Rattle.kp_kore.specs.Rules.{Rewrite, rewrite, RewriteRule}
 use Rattle.kp_kore.specs.Theory.{Theory}
-use Rattle.kp_kore.specs.Steps.{Fires, HasTurn}
+use Rattle.kp_kore.specs.Steps.{Fires, HasTurn, AnyByRecursion}
 use Rattle.kp_kore.specs.Instance.{Valuation, is_named}
 use Rattle.kp_kore.proofs.NameLemmas.{true_is_false}
 use Rattle.kp_symbolic.specs.Terms.{Replaced}
@@ -40,7 +41,8 @@ use Rattle.kp_step.specs.Places.{IsAt, IsReadAs, IsPriorityAt}
 use Rattle.kp_step.specs.Rules.{TellsRead}
 use Rattle.kp_step.specs.Ready.{IsWholeReady}
 use Rattle.kp_step.specs.Remainders.{IsPartIn, AreUntaken}
-use Rattle.kp_step.specs.Found.{PlacedTurn, IsRuleAt, IsMetIn, IsTurnAt}
+use Rattle.kp_step.specs.Found.{PlacedTurn, IsRuleAt, IsMetIn, IsTurnAt, AreTriedBefore}
+use Rattle.kp_step.specs.Causes.{AreAllBefore}
 use Rattle.kp_step.specs.Limits.{TermLimit, number, Passes, IsPassed}
 use Rattle.kp_step.specs.Meets.{MeetsRule, AllMeet}
 use Rattle.kp_step.specs.Tries.{PlacedFiring, narrowed_of, IsLeftAt, IsFiringOf, CanMeet, AreTurnParts}
@@ -55,7 +57,7 @@ use Rattle.kp_step.specs.declared.part_answers.Decided.TheVariants as decided
 use Rattle.kp_step.specs.declared.outcome.StepLimit.{StepLimit}
 use Rattle.kp_step.proofs.AnswerLemmas.{MayBe, may_by_instance, may_by_open}
 use Rattle.kp_step.proofs.FiringLemmas.{is_firing}
-use Rattle.kp_step.proofs.FoundLemmas.{one_at}
+use Rattle.kp_step.proofs.FoundLemmas.{one_at, contains_at}
 use Rattle.kp_step.proofs.MeetLemmas.{no_parts, some_part_meets, form_meets, clauses_meet, other_form, met_answer}
 use Rattle.kp_step.proofs.TryLemmas.{fires_there, rules_are_found, rules_in_theory, no_turn_at, unread_no_turn}
 use Rattle.kp_step.proofs.TurnLemmas.{can_meet, met_sorted, narrowed_sorted, nothing_there, parts_told, passes_condition}
@@ -218,8 +220,26 @@ pub some_views : (parts : List Part) → ¬ (parts ≡ []) → ¬ (numbered_view
 some_views parts some e = some (no_views parts e)
 
 -- what is left open of a part
-pub open_told : (t : Theory) (used : List Text) (s : SymbolicState) (place : ℕ) (found : List RewriteRule) (p : StatePart) (o : UndecidedClauses) → TellsParts t used s place found p (decided.UndecidedClauses o) → IsToldUndecided t s (clauses_view o.shown.items) o.over (Some place)
-open_told t used s place found p o k = record { rule = Some k.0; is_rule = k.1; weight = k.2; weighed = k.3; what_is_undecided = k.4 }
+-- a rule that was found at a place is among those of the turns
+found_at : (t : Theory) (turns : List PlacedTurn) (found : List RewriteRule) (i : ℕ) (q : RewriteRule) → AllZip (IsRuleAt t) turns found → IsAt t i q → AnyByRecursion (λ k. k.place ≡ i) turns → Contains found q
+found_at t [] found i q z at any = absurd any
+found_at t (k ∷ turns) [] i q z at any = absurd z
+found_at t (k ∷ turns) (r ∷ found) i q z at (inl e) = subst (λ x. Contains (r ∷ found) x) (one_at t i r q (subst (λ p. IsAt t p r) e z.0.0) at) (Contains-append_left (r ∷ []) found r (Contains-push [] r))
+found_at t (k ∷ turns) (r ∷ found) i q z at (inr any) = Contains-append_right (r ∷ []) found q (found_at t turns found i q z.1 at any)
+
+-- where all that go before were tried, those found are all
+all_before : (t : Theory) (s : SymbolicState) (place : ℕ) (m : Rewrite) (turns : List PlacedTurn) (found : List RewriteRule) (r : RewriteRule) → IsReadAs t place m → IsAt t place r → AllZip (IsRuleAt t) turns found → AreTriedBefore t (whole s) turns place → AreAllBefore t s (Some r) found
+all_before t s place m turns found r read at z tried w c sorts met q member less turn =
+    let body : r.body ≡ rewrite m = subst (λ x. x.body ≡ rewrite m) (one_at t place read.0 r read.1 at) read.2 in
+    let there = contains_at t.rules q member in
+    elim (tried r m at body there.0 q there.1 less) [
+      | inl any ↦ found_at t turns found there.0 q z there.1 any
+      | inr none ↦ absurd (none w c sorts met turn)
+    ]
+
+pub open_told : (t : Theory) (used : List Text) (s : SymbolicState) (place : ℕ) (m : Rewrite) (turns : List PlacedTurn) (found : List RewriteRule) (p : StatePart) (o : UndecidedClauses) → IsReadAs t place m → AllZip (IsRuleAt t) turns found → TellsParts t used s place found p (decided.UndecidedClauses o) → AreTriedBefore t (whole s) turns place →
+    IsToldUndecided t s (clauses_view o.shown.items) o.over (Some place)
+open_told t used s place m turns found p o read z k tried = record { rule = Some k.0; is_rule = k.1; weight = k.2; weighed = k.3; what_is_undecided = k.4 (all_before t s place m turns found k.0 read k.1 z tried) }
 
 -- ---- a rule that doesn't fire
 

@@ -22,9 +22,9 @@ use Rattle.kp_step.specs.declared.firing.Firing.{Firing}
 use Rattle.kp_step.specs.Places.{IsAt}
 use Rattle.kp_step.specs.ReadyParts.{HasInstance, parts_of}
 use Rattle.kp_step.specs.Remainders.{AreUntaken, AreKept}
-use Rattle.kp_step.specs.Found.{PlacedTurn, IsTurnAt, AreAllFound}
+use Rattle.kp_step.specs.Found.{PlacedTurn, IsTurnAt, AreTriedBefore, AreAllFound}
 use Rattle.kp_step.specs.Tries.{PlacedFiring, AreTurnParts, AreRemaining}
-use Rattle.kp_step.specs.Causes.{IsShownOf, IsUndecidedStep, MeetsForeign}
+use Rattle.kp_step.specs.Causes.{IsShownOf, AreAllBefore, IsUndecidedStep, MeetsForeign}
 use Rattle.kp_step.specs.Views.{numbered_views, turn_view}
 use Rattle.kp_step.specs.RightSteps.{IsRightStep}
 use Rattle.kp_step.specs.declared.part_answers.UndecidedClauses.{UndecidedClauses}
@@ -104,27 +104,28 @@ abbrev pub TellsKnown : Theory → List Text → SymbolicState → Option StepOu
 TellsKnown t used s None = OfEachInstance t.signature (whole s) (λ w c. ¬ IsUnknown t c)
 TellsKnown t used s (Some o) = IsRightStep t used s o
 
--- the rule of the place has no turn, or this one, beside those that were found before; or the step ends
+-- the rule of the place has no turn, or this one, beside those that were found before; or the step ends, where all that go before
+-- were tried
 abbrev pub TellsTurn : Theory → List Text → SymbolicState → List PlacedTurn → ℕ → trials.Tried → Type 0
 TellsTurn t used s turns place tried.NoTurn = (r : RewriteRule) → IsAt t place r → OfEachInstance t.signature (whole s) (λ w c. ¬ HasTurn t r c)
 TellsTurn t used s turns place (tried.Turn k) =
     (k.place ≡ place) × (i : IsTurnAt t used (whole s) (turn_view k)) × AllByRecursion (λ n. (r : RewriteRule) → IsAt t n.place r → Contains i.before r) turns
-TellsTurn t used s turns place (tried.Ended o) = IsRightStep t used s o
+TellsTurn t used s turns place (tried.Ended o) = AreTriedBefore t (whole s) turns place → IsRightStep t used s o
 
 -- the turns of all rules are found, or the step ends
 abbrev pub TellsTurns : Theory → List Text → SymbolicState → searches.Searched → Type 0
 TellsTurns t used s (searched.Found turns) = AreAllFound t used (whole s) (map turn_view turns.items)
 TellsTurns t used s (searched.Ended o) = IsRightStep t used s o
 
--- the parts of a rule's turn, or what is left open of one
+-- the parts of a rule's turn, or what is left open of one, where those found are all that go before
 abbrev pub TellsParts : Theory → List Text → SymbolicState → ℕ → List RewriteRule → StatePart → decisions.Decided → Type 0
 TellsParts t used s place found m (decided.Parts ks) = AreTurnParts t used s place found m (numbered_views ks.items)
-TellsParts t used s place found m (decided.UndecidedClauses o) = (r : RewriteRule) × IsAt t place r × (h : Option Weighed) × IsWeighedAs h o.over × IsUndecidedStep t s (Some r) (clauses_view o.shown.items) h
+TellsParts t used s place found m (decided.UndecidedClauses o) = (r : RewriteRule) × IsAt t place r × (h : Option Weighed) × IsWeighedAs h o.over × (AreAllBefore t s (Some r) found → IsUndecidedStep t s (Some r) (clauses_view o.shown.items) h)
 
--- the parts where none of the rules found fires, or what is left open of one
+-- the parts where none of the rules found fires, or what is left open of one, where those found are all
 abbrev pub TellsRemainder : Theory → List Text → SymbolicState → List RewriteRule → decisions.Decided → Type 0
 TellsRemainder t used s found (decided.Parts ks) = AreRemaining t used s found (numbered_views ks.items)
-TellsRemainder t used s found (decided.UndecidedClauses o) = (h : Option Weighed) × IsWeighedAs h o.over × IsUndecidedStep t s None (clauses_view o.shown.items) h
+TellsRemainder t used s found (decided.UndecidedClauses o) = (h : Option Weighed) × IsWeighedAs h o.over × (AreAllBefore t s None found → IsUndecidedStep t s None (clauses_view o.shown.items) h)
 
 -- what the code's firing of a rule is
 abbrev pub firing_model : Firing → PlacedFiring

@@ -7,13 +7,13 @@ use Rattle.kp_kore.specs.Value.{Value}
 use Rattle.kp_kore.specs.Instance.{Valuation, GivesSorts}
 use Rattle.kp_kore.specs.Rules.{RuleBody, rewrite, ForeignLeft, foreign_rule, RewriteRule, most_priority}
 use Rattle.kp_kore.specs.Theory.{Theory}
-use Rattle.kp_kore.specs.Steps.{Fires, IsUnknownBy}
+use Rattle.kp_kore.specs.Steps.{Fires, HasTurn, IsUnknownBy}
 use Rattle.kp_symbolic.specs.States.{Literal, SymbolicState, IsStateInstance}
 use Rattle.kp_symbolic.specs.Plain.{rough_clauses}
 use Rattle.kp_symbolic.specs.Verdicts.{Weighed, IsStateUndecided, IsTooHeavy}
 use Rattle.kp_case_laws.specs.Parts.{StatePart, whole, OfEachInstance}
 use Rattle.kp_case_laws.specs.Firing.{AreWhere}
-use Rattle.kp_case_laws.specs.Turns.{NoneGoesBefore, NoneOfThese}
+use Rattle.kp_case_laws.specs.Turns.{NoneGoesBefore, NoneOfThese, TakesFrom}
 use Rattle.kp_step.specs.Comes.{ComesFrom}
 use Rattle.kp_step.specs.Remainders.{IsOneOf}
 use Rattle.kp_step.specs.Meets.{MeetsRule}
@@ -39,7 +39,17 @@ IsShownOf g s p shown None = IsStateUndecided g p shown
     ⊎ ((h : Weighed) × (all : List (List Literal)) × IsTooHeavy g p all h × (¬ (rough_clauses g s ≡ [])) × (shown ≡ rough_clauses g s))
 IsShownOf g s p shown (Some h) = IsTooHeavy g p shown h × (rough_clauses g s ≡ [])
 
--- It isn't decided whether one of the parts where something is asked has an instance. That part comes of the state, of the rule
+-- a foreign rule is asked by itself, and the state before all rules
+abbrev pub IsAskedAlone : SymbolicState → Option RewriteRule → List RewriteRule → StatePart → Type 0
+IsAskedAlone s (Some r) turns part = (turns ≡ []) × (left : ForeignLeft) × (r.body ≡ foreign_rule left)
+IsAskedAlone s None turns part = (turns ≡ []) × (part ≡ whole s)
+
+-- whatever rule goes before and has its turn on an instance of the state is one of these
+abbrev pub AreAllBefore : Theory → SymbolicState → Option RewriteRule → List RewriteRule → Type 0
+AreAllBefore t s rule turns = OfEachInstance t.signature (whole s) (λ w c. (q : RewriteRule) → Contains t.rules q → TakesFrom q rule → HasTurn t q c → Contains turns q)
+
+-- It isn't decided whether one of the parts where something is asked has an instance. Each rule of a smaller priority number, and
+-- each where none is asked of, has taken from the parts, but where a foreign rule or the state alone is asked of. That part comes of the state, of the rule
 -- and of those that take from it, and nothing else stands in it; each of these rules meets the state. Where a
 -- weight is told, no more whole-number variables are compared than stand in the state and in these rules' left sides.
 pub record IsUndecidedStep (t : Theory) (s : SymbolicState) (rule : Option RewriteRule) (shown : List (List Literal)) (over : Option Weighed) : Type 0 where
@@ -49,6 +59,7 @@ pub record IsUndecidedStep (t : Theory) (s : SymbolicState) (rule : Option Rewri
   pub parts : List StatePart
   pub asked : AreWhere t.signature (IsAsked t.signature rule turns) (whole s) parts
   pub part : StatePart
+  pub first : IsAskedAlone s rule turns part ⊎ AreAllBefore t s rule turns
   pub among : Contains parts part
   pub comes : ComesFrom t.signature (IsOneOf rule turns) (whole s) part
   pub shows : IsShownOf t.signature s part.state shown over

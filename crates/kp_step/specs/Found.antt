@@ -74,6 +74,11 @@ pub record IsTurnAmong (t : Theory) (used : List Text) (s : StatePart) (turns : 
 abbrev pub IsTried : Theory → StatePart → List PlacedTurn → ℕ → Type 0
 IsTried t s turns place = (r : RewriteRule) → IsAt t place r → AnyByRecursion (λ k. k.place ≡ place) turns ⊎ OfEachInstance t.signature s (λ w c. ¬ HasTurn t r c)
 
+-- each rule that goes before that of the place was tried, where that is read
+abbrev pub AreTriedBefore : Theory → StatePart → List PlacedTurn → ℕ → Type 0
+AreTriedBefore t s turns place = (r : RewriteRule) (m : Rewrite) → IsAt t place r → r.body ≡ rewrite m → (i : ℕ) (q : RewriteRule) → IsAt t i q → q.priority < r.priority →
+    AnyByRecursion (λ k. k.place ≡ i) turns ⊎ OfEachInstance t.signature s (λ w c. ¬ HasTurn t q c)
+
 -- no two are of one place
 abbrev pub HaveOwnPlaces : List PlacedTurn → Type 0
 HaveOwnPlaces [] = ⊤

@@ -8,7 +8,7 @@ use Rattle.kp_step.specs.Answers.{TellsTurn}
 use Rattle.kp_step.specs.Views.{turn_view}
 use Rattle.kp_step.proofs.FoundLemmas.{turns_of}
 use Rattle.kp_step.proofs.MeetLemmas.{turns_meet}
-use Rattle.kp_step.proofs.StageLemmas.{FoundAt, finds_no_turn, finds_turn, finds_all}
+use Rattle.kp_step.proofs.StageLemmas.{FoundAt, finds_no_turn, finds_turn, tried_before, finds_all}
 use Rattle.kp_step.proofs.TryLemmas.{found_rules}
 use Rattle.kp_step.proofs.turns.find_turns.Goals.{in-NoTurn, in-Turn+in_ok-push-in-Turn}
 use Rattle.kp_step.proofs.turns.find_turns.Goals as goal
@@ -21,7 +21,10 @@ returns-in-Ended c t used s k =
     let rs = rules_of (turns_of t used (whole s) ks ks all.each) in
     let same = c.deref.ensures.value in
     let told = c.in_ok-try_rule.ensures t used s rs k (subst (λ ts. AllZip (IsRuleAt t) (map turn_view ts) rs) (sym same) (found_rules t used (whole s) ks ks all.each)) (turns_meet t used s ks ks all.each) in
-    subst (TellsTurn t used s ks place) c.in-Ended.is (subst (λ ts. TellsTurn t used s (map turn_view ts) place c.in_ok-try_rule.field-0) same told)
+    let places = c.in_turn-place-items.result.now in
+    let there = get_or_default places c.loop-place.place-index 0 place c.loop-place-test.true in
+    let tried = tried_before t used s c.args.rules.now places c.loop-place.place-index place ks k.steps.runs c.in_turn-place-items.ensures c.loop-place-test.true there all in
+    (subst (TellsTurn t used s ks place) c.in-Ended.is (subst (λ ts. TellsTurn t used s (map turn_view ts) place c.in_ok-try_rule.field-0) same told)) tried
 
 pub loop-place-preserved : goal.loop-place-preserved
 loop-place-preserved c t used s k =

@@ -12,7 +12,7 @@ pub returns-in-Some : goal.returns-in-Some
 returns-in-Some c t used s found k z all at i =
     let f = firing_model c.args.firing in
     let same = ap (λ q. q.part.state) c.in_ok-narrowed.ensures in
-    subst (λ o. MatchOption o ⊤ (λ l. IsPassed t s (limit_view l))) c.in-Some.is (c.in_ok-limit.ensures t used s c.args.place k.steps.signature k.setting k.whole at i same)
+    λ tried. subst (λ o. MatchOption o ⊤ (λ l. IsPassed t s (limit_view l))) c.in-Some.is (c.in_ok-limit.ensures t used s c.args.place k.steps.signature k.setting k.whole at i same)
 
 pub returns-in-Parts : goal.returns-in-Parts
 returns-in-Parts c t used s found k z all at i =
@@ -25,4 +25,4 @@ pub returns-in-UndecidedClauses : goal.returns-in-UndecidedClauses
 returns-in-UndecidedClauses c t used s found k z all at i =
     let f = firing_model c.args.firing in
     let told = c.in_ok-parts.ensures t used s found k z all c.args.place f at i (c.priority_at-priority.ensures t k.steps.runs) c.in_ok-narrowed.ensures in
-    open_told t used s c.args.place found f.part.part c.in-UndecidedClauses.told (subst (TellsParts t used s c.args.place found f.part.part) c.in-UndecidedClauses.is told)
+    open_told t used s c.args.place i.read (map turn_view c.args.turns.now) found f.part.part c.in-UndecidedClauses.told (i.rule, i.at, i.body) z (subst (TellsParts t used s c.args.place found f.part.part) c.in-UndecidedClauses.is told)
