@@ -1,5 +1,5 @@
 -- A run goes on by one rule alone, or ends.
-use Rattle.std.proofs.Common.{◌≡◌, sym, ◌∙◌, subst, ℕ, suc, ◌<◌, arith, Bool, true, false, ◌||◌, List, Option, Some, None, inl, inr}
+use Rattle.std.proofs.Common.{◌≡◌, sym, ◌∙◌, subst, ℕ, suc, ◌<◌, arith, Bool, true, false, ◌||◌, List}
 use Rattle.std.specs.Str.{bytes_eq}
 use Rattle.std.proofs.lemmas.List.Folds.{list_any-append}
 use Rattle.kp_kore.specs.Syntax.{Text}
@@ -8,15 +8,13 @@ use Rattle.kp_kore.specs.Rules.{RewriteRule}
 use Rattle.kp_kore.specs.Theory.{Theory}
 use Rattle.kp_kore.specs.Executions.{Options, listed_in, is_among}
 use Rattle.kp_kore.specs.Replies.{is_listed}
-use Rattle.kp_symbolic.specs.States.{Literal, SymbolicState}
-use Rattle.kp_symbolic.specs.Verdicts.{Weighed}
+use Rattle.kp_symbolic.specs.States.{SymbolicState}
 use Rattle.kp_symbolic.specs.View.{state_view, clauses_view}
 use Rattle.kp_case_laws.specs.Runs.{HasRunTo}
 use Rattle.kp_case_laws.proofs.RunLaws.{begins, passes_none, goes_on, passes_on, ends_by}
 use Rattle.kp_satisfiability.specs.Read.{HasSortedClauses}
 use Rattle.kp_step.specs.Ready.{IsReadyState}
-use Rattle.kp_step.specs.Causes.{IsShownOf}
-use Rattle.kp_step.specs.Answers.{ShowsOf, IsRightAnswerOf}
+use Rattle.kp_step.specs.Answers.{IsRightUndecided, IsRightAnswerAlone}
 use Rattle.kp_step.specs.declared.part_answers.PartAnswer.{PartAnswer}
 use Rattle.kp_step.specs.declared.part_answers.PartAnswer.TheVariants as answer
 use Rattle.kp_step.specs.declared.part_answers.UndecidedClauses.{UndecidedClauses}
@@ -29,17 +27,12 @@ use Rattle.kp_execute.specs.declared.ending.Run.{Run}
 
 -- ---- at the bound
 
-shown_undecided : (g : KoreSignature) (s : SymbolicState) (shown : List (List Literal)) (over : Option Weighed) → IsShownOf g s s shown over → IsUndecided g s
-shown_undecided g s shown None (inl r) = record { shown = shown; over = None; right = r }
-shown_undecided g s shown None (inr h) = record { shown = h.1; over = Some h.0; right = h.2 }
-shown_undecided g s shown (Some h) r = record { shown = shown; over = Some h; right = r.0 }
-
 -- what is left open of the state isn't decided
-left_undecided : (g : KoreSignature) (s : SymbolicState) (o : UndecidedClauses) → ShowsOf g s s o → IsUndecided g s
-left_undecided g s o x = shown_undecided g s (clauses_view o.shown.items) x.0 x.2
-
-pub open_undecided : (g : KoreSignature) (s : SymbolicState) (a : PartAnswer) (o : UndecidedClauses) → a ≡ answer.UndecidedClauses o → IsRightAnswerOf g s s a → IsUndecided g s
-open_undecided g s a o e right = left_undecided g s o (subst (IsRightAnswerOf g s s) e right)
+pub open_undecided : (g : KoreSignature) (s : SymbolicState) (a : PartAnswer) (o : UndecidedClauses) → a ≡ answer.UndecidedClauses o → IsRightAnswerAlone g s a → IsUndecided g s
+open_undecided g s a o e right = by (subst (IsRightAnswerAlone g s) e right)
+  where
+    by : IsRightUndecided g s o → IsUndecided g s
+    by r = record { shown = clauses_view o.shown.items; over = r.0; right = r.2 }
 
 -- ---- on its way
 

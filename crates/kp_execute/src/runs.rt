@@ -9,7 +9,7 @@ ghost use Rattle.kp_symbolic.specs.View.{state_view};
 ghost use Rattle.kp_satisfiability.specs.Read.{HasSortedClauses};
 ghost use Rattle.kp_results.specs.View.{options_view};
 ghost use Rattle.kp_unify.specs.Views.{signature_of};
-ghost use Rattle.kp_step.specs.Answers.{IsRightAnswerOf};
+ghost use Rattle.kp_step.specs.Answers.{IsRightAnswerAlone};
 ghost use Rattle.kp_execute.specs.Endings.{IsRunFrom, IsEndAtBound, IsRightRun};
 
 use crate::ending::{Ending, Run};
@@ -17,14 +17,14 @@ use crate::onward::{Onward, after_step};
 use kp_compile::CompileError;
 use kp_results::Options;
 use kp_rule_sets::RuleSet;
-use kp_step::part_answers::{PartAnswer, answer_of};
+use kp_step::part_answers::{PartAnswer, answer_alone};
 use kp_symbolic::State;
 use kp_unify::Setting;
 use std::alloc::{AllocError, Global};
 
 /// How a run ends in a state at its bound of which this is answered.
 fn ending_of(answer: &PartAnswer) -> Ending
-    ensures { (g : KoreSignature) (s : SymbolicState) → IsRightAnswerOf g s s answer.now → IsEndAtBound g s result }
+    ensures { (g : KoreSignature) (s : SymbolicState) → IsRightAnswerAlone g s answer.now → IsEndAtBound g s result }
 {
     match answer {
         PartAnswer::Nothing => Ending::Vacuous,
@@ -38,7 +38,7 @@ fn at_bound(alloc: Global, setting: Setting<'_>, state: &State) -> Result<Ending
     requires { IsHeadTableOf (signature_of setting) setting.table.now }
     ensures { let g = signature_of setting.entry in let s = state_view state.now in IfOk result (λ e. HasSortedClauses g s → IsEndAtBound g s e) }
 {
-    let answer = answer_of(alloc, setting, state, state)?;
+    let answer = answer_alone(alloc, setting, state)?;
     Ok(ending_of(&answer))
 }
 

@@ -63,7 +63,7 @@ grown_sourced t used s q k c =
 
 shown_of : (g : KoreSignature) (R : RuleBody → Type 0) (new : List SortedName) (s p : SymbolicState) (shown : List (List Literal)) (over : Option Weighed) → AreSourcedClauses g R new s p.clauses → IsShownOf g s p shown over → AreSourcedClauses g R new s shown
 shown_of g R new s p shown None k (inl h) = subst (AreSourcedClauses g R new s) (sym h.shown_are) (rough_have g _ p k)
-shown_of g R new s p shown None k (inr h) = subst (AreSourcedClauses g R new s) (sym h.4) (rough_have g _ s (itself_sourced g R new s).clauses)
+shown_of g R new s p shown None k (inr h) = subst (AreSourcedClauses g R new s) (sym h.are) (rough_have g _ s (itself_sourced g R new s).clauses)
 shown_of g R new s p shown (Some w) k h = subst (AreSourcedClauses g R new s) (sym h.0.shown_are) k
 
 shown_by : (t : Theory) (R : RuleBody → Type 0) (s : SymbolicState) (rule : Option RewriteRule) (shown : List (List Literal)) (over : Option Weighed) (k : IsUndecidedStep t s rule shown over) → ((b : RuleBody) → IsOneOf rule k.turns b → R b) →

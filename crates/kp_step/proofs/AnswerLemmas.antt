@@ -14,8 +14,7 @@ use Rattle.kp_satisfiability.specs.declared.verdict.Verdict.TheVariants as told
 use Rattle.kp_case_laws.specs.Parts.{whole}
 use Rattle.kp_case_laws.specs.Firing.{HasNoInstance}
 use Rattle.kp_step.specs.ReadyParts.{HasInstance}
-use Rattle.kp_step.specs.Causes.{IsShownOf}
-use Rattle.kp_step.specs.Answers.{IsRightUndecided, ShowsOf}
+use Rattle.kp_step.specs.Answers.{IsRightUndecided, IsShownBeside, ShowsOf}
 use Rattle.kp_step.specs.declared.part_answers.UndecidedClauses.{UndecidedClauses}
 use Rattle.kp_step.proofs.DecideLemmas.{some_instance, no_instance, shown_without, shown_of_state, shown_with_weight}
 
@@ -103,7 +102,7 @@ may_by_open g s p o shows = by shows.0 shows.2
     no : {cs : List (List Literal)} {h : Option Weighed} → undecided cs h ≡ no_valuation → ⊥
     no e = cc
 
-    by : (h : Option Weighed) → IsShownOf g s p (clauses_view o.shown.items) h → MayBe g p
+    by : (h : Option Weighed) → IsShownBeside g s p (clauses_view o.shown.items) h → MayBe g p
     by None (inl r) = record { verdict = undecided (clauses_view o.shown.items) None; right = r; not_none = no }
     by None (inr x) = record { verdict = undecided x.1 (Some x.0); right = x.2; not_none = no }
     by (Some h) r = record { verdict = undecided (clauses_view o.shown.items) (Some h); right = r.0; not_none = no }

@@ -33,7 +33,7 @@ use Rattle.kp_step.specs.Found.{PlacedTurn, IsRuleAt, AreAllFound}
 use Rattle.kp_step.specs.Follows.{AreNextsOf, IsSolvedPart}
 use Rattle.kp_step.specs.Limits.{TermLimit, number, Passes, PassesNone, IsCaseMade, told_state, IsPassed}
 use Rattle.kp_step.specs.Tries.{OneFiresOnAll, AreRemaining}
-use Rattle.kp_step.specs.Answers.{ShowsOf, IsRightAnswerOf, AreDecided, TellsRemainder}
+use Rattle.kp_step.specs.Answers.{IsRightUndecided, IsRightAnswerAlone, AreDecided, TellsRemainder}
 use Rattle.kp_step.specs.RightSteps.{IsCaseOf, IsRemainderOf, AreCasesOf, IsToldUndecided}
 use Rattle.kp_step.specs.Views.{numbered_views, next_view, next_told, part_told, limit_view}
 use Rattle.kp_step.specs.declared.part_answers.PartAnswer as answers
@@ -44,6 +44,7 @@ use Rattle.kp_step.specs.declared.part_answers.Decided.TheVariants as decided
 use Rattle.kp_step.specs.declared.outcome.Next.{Next}
 use Rattle.kp_step.proofs.AloneLemmas.{one_fires}
 use Rattle.kp_step.proofs.CauseLemmas.{open_state, open_remainder}
+use Rattle.kp_step.proofs.DecideLemmas.{shown_of_instance, shown_itself}
 use Rattle.kp_step.proofs.FoundLemmas.{one_at, turns_of}
 use Rattle.kp_step.proofs.RemainderLemmas.{all_is_left, kept_is_left, kept_have}
 use Rattle.kp_step.proofs.OutcomeLemmas.{cases_are, steps_are}
@@ -56,30 +57,31 @@ use Rattle.kp_step.proofs.TryLemmas.{found_rules, rules_in_theory}
 abbrev with_number : StatePart → ℕ → NumberedPart
 with_number p n = record { part = p; next = n }
 
-pub is_whole : (g : KoreSignature) (used : List Text) (s : SymbolicState) (next : ℕ) (q : NumberedPart) → q.part ≡ whole s → q.next ≡ next → IsReadyState g used s next → IsWholeReady g used s q
-is_whole g used s next q e f r = record { is = e; ready = subst (IsReadyPart g used) (sym (by q.part q.next e f)) r }
+pub is_whole : (g : KoreSignature) (used : List Text) (s : SymbolicState) (next : ℕ) (q : NumberedPart) → q.part ≡ whole s → q.next ≡ next → IsReadyState g used s next → HasInstance g (whole s) → IsWholeReady g used s q
+is_whole g used s next q e f r i = record { is = e; ready = subst (IsReadyPart g used) (sym (by q.part q.next e f)) r; instance = i }
   where
     by : (p : StatePart) (n : ℕ) → p ≡ whole s → n ≡ next → with_number p n ≡ with_number (whole s) next
     by p n a b = ap (λ x. with_number x n) a ∙ ap (λ m. with_number (whole s) m) b
 
 -- ---- what is left open
 
-pub open_at_all : (t : Theory) (s : SymbolicState) (o : UndecidedClauses) → IsTold t.signature (whole s) → ShowsOf t.signature s s o → IsCounted t.signature s (most_for t.signature s []) o.over → IsToldUndecided t s (clauses_view o.shown.items) o.over None
-open_at_all t s o told shows counted = record { rule = None; is_rule = tt; weight = shows.0; weighed = shows.1; what_is_undecided = open_state t s (clauses_view o.shown.items) shows.0 told shows.2 (counted_for t.signature s s [] (most_for t.signature s []) shows.0 o.over (most_of_none t.signature s) counted shows.1) }
+pub open_at_all : (t : Theory) (s : SymbolicState) (o : UndecidedClauses) → IsTold t.signature (whole s) → IsRightUndecided t.signature s o → IsCounted t.signature s (most_for t.signature s []) o.over → IsToldUndecided t s (clauses_view o.shown.items) o.over None
+open_at_all t s o told shows counted = record { rule = None; is_rule = tt; weight = shows.0; weighed = shows.1; what_is_undecided = open_state t s (clauses_view o.shown.items) shows.0 told (shown_itself t.signature s (clauses_view o.shown.items) shows.0 shows.2) (counted_for t.signature s s [] (most_for t.signature s []) shows.0 o.over (most_of_none t.signature s) counted shows.1) }
 
 -- ---- the remainder
 
-pub remainder_told : (t : Theory) (used : List Text) (s : SymbolicState) (q : NumberedPart) (found : List RewriteRule) (most : ℕ) (left : List NumberedPart) (d : decisions.Decided) → q.part ≡ whole s → AllByRecursion (Contains t.rules) found → AllMeet t.signature s found → IsMost t.signature s found most → AreUntaken t.signature used None found (whole s) (whole s) left →
+pub remainder_told : (t : Theory) (used : List Text) (s : SymbolicState) (q : NumberedPart) (found : List RewriteRule) (most : ℕ) (left : List NumberedPart) (d : decisions.Decided) → q.part ≡ whole s → HasInstance t.signature (whole s) → AllByRecursion (Contains t.rules) found → AllMeet t.signature s found → IsMost t.signature s found most → AreUntaken t.signature used None found (whole s) (whole s) left →
     OneTakesAll t.signature found (q ∷ []) left → AreDecided t.signature s most left d → TellsRemainder t used s found d
-remainder_told t used s q found most left (decided.Parts ks) e members meet m l o k = record {
+remainder_told t used s q found most left (decided.Parts ks) e there members meet m l o k = record {
   left = kept_is_left t.signature used None found (whole s) (whole s) left (numbered_views ks.items) k l;
   instances = kept_have t.signature left (numbered_views ks.items) k;
   alone = one_fires t s q found left (numbered_views ks.items) e o k;
 }
-remainder_told t used s q found most left (decided.UndecidedClauses o) e members meet m l all k =
+remainder_told t used s q found most left (decided.UndecidedClauses o) e there members meet m l all k =
     let shows = k.2 in
     let compares = counted_for t.signature s k.0.part.state found most shows.0 o.over m k.3 shows.1 in
-    (shows.0, shows.1, open_remainder t used s (whole s) found left k.0 (clauses_view o.shown.items) shows.0 members meet l k.1 shows.2 compares)
+    let shown = shown_of_instance t.signature s k.0.part.state (clauses_view o.shown.items) shows.0 there shows.2 in
+    (shows.0, shows.1, open_remainder t used s (whole s) found left k.0 (clauses_view o.shown.items) shows.0 members meet l k.1 shown compares)
 
 one_fires_solved : (t : Theory) (used : List Text) (s : SymbolicState) (found : List RewriteRule) (qs rs : List NumberedPart) → AllZip (IsSolvedPart t.signature used) qs rs → OneFiresOnAll t s found qs → OneFiresOnAll t s found rs
 one_fires_solved t used s [] qs rs z o = tt
@@ -183,7 +185,7 @@ ready_left g used o found s m qs l = each_ready g used s m qs l.each
 pub remainder_by : (t : Theory) (used : List Text) (s : SymbolicState) (g : KoreSignature) (q : NumberedPart) (found : List RewriteRule) (most : ℕ) (parts left : List NumberedPart) (d : decisions.Decided) (turns : List PlacedTurn) → g ≡ t.signature → IsWholeReady t.signature used s q → AllZip (IsRuleAt t) turns found → AllMeet t.signature s found → IsMost t.signature q.part.state found most → parts ≡ q ∷ [] → AreUntaken g used None found (whole s) (whole s) left →
     OneTakesAll g found parts left → AreDecided g q.part.state most left d → TellsRemainder t used s found d
 remainder_by t used s g q found most parts left d turns e w z meet m is l o k =
-    remainder_told t used s q found most left d w.is (rules_in_theory t turns found z) meet (subst (λ p. IsMost t.signature p.state found most) w.is m) (subst (λ h. AreUntaken h used None found (whole s) (whole s) left) e l)
+    remainder_told t used s q found most left d w.is w.instance (rules_in_theory t turns found z) meet (subst (λ p. IsMost t.signature p.state found most) w.is m) (subst (λ h. AreUntaken h used None found (whole s) (whole s) left) e l)
     (subst (λ xs. OneTakesAll t.signature found xs left) is (subst (λ h. OneTakesAll h found parts left) e o)) (subst (λ p. AreDecided t.signature p.state most left d) w.is (subst (λ h. AreDecided h q.part.state most left d) e k))
 
 pub told_remainder_open : (t : Theory) (used : List Text) (s : SymbolicState) (found : List RewriteRule) (o : UndecidedClauses) → TellsRemainder t used s found (decided.UndecidedClauses o) → AreAllTurns t (whole s) found → IsToldUndecided t s (clauses_view o.shown.items) o.over None
@@ -205,9 +207,9 @@ passes_number t s g o l e is told = by (first_wide g s) refl (ap (option_map lim
     by (Some w) d k = subst (IsPassed t s) (sym (inside k)) (record { state = s; which = inl refl; passes = subst (λ h. first_wide h s ≡ Some w) e d })
 
 -- a step from all of it
-pub step_from : (t : Theory) (used : List Text) (s : SymbolicState) (k : Setting) (rules : RuleSet) (next : ℕ) (q : NumberedPart) → Steps t k rules → IsSetting used k → q.part ≡ whole s → q.next ≡ next → IsReadyState t.signature used s next → IsStepFrom t used s k rules q
-step_from t used s k rules next q steps setting e f ready = record { steps = steps; setting = setting; whole = is_whole t.signature used s next q e f ready }
+pub step_from : (t : Theory) (used : List Text) (s : SymbolicState) (k : Setting) (rules : RuleSet) (next : ℕ) (q : NumberedPart) → Steps t k rules → IsSetting used k → q.part ≡ whole s → q.next ≡ next → IsReadyState t.signature used s next → HasInstance t.signature (whole s) → IsStepFrom t used s k rules q
+step_from t used s k rules next q steps setting e f ready some = record { steps = steps; setting = setting; whole = is_whole t.signature used s next q e f ready some }
 
 -- what is answered of it
-pub answer_at : (t : Theory) (used : List Text) (s : SymbolicState) (g : KoreSignature) (next : ℕ) (a : answers.PartAnswer) → g ≡ t.signature → IsReadyState t.signature used s next → (HasSortedClauses g s → IsRightAnswerOf g s s a) → IsRightAnswerOf t.signature s s a
-answer_at t used s g next a e ready told = subst (λ h. HasSortedClauses h s → IsRightAnswerOf h s s a) e told (sorted_clauses t.signature s ready.safe.sorted)
+pub answer_at : (t : Theory) (used : List Text) (s : SymbolicState) (g : KoreSignature) (next : ℕ) (a : answers.PartAnswer) → g ≡ t.signature → IsReadyState t.signature used s next → (HasSortedClauses g s → IsRightAnswerAlone g s a) → IsRightAnswerAlone t.signature s a
+answer_at t used s g next a e ready told = subst (λ h. HasSortedClauses h s → IsRightAnswerAlone h s a) e told (sorted_clauses t.signature s ready.safe.sorted)

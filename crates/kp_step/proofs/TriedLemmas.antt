@@ -33,7 +33,7 @@ use Rattle.kp_case_laws.specs.Firing.{HasNoInstance, FiresNowhere, AreFiringCase
 use Rattle.kp_unify.specs.Narrowed.{NumberedPart}
 use Rattle.kp_unify.specs.Views.{part_view, numbered_view}
 use Rattle.kp_unify.specs.declared.part.Part.{Part}
-use Rattle.kp_step.specs.ReadyParts.{IsReadyPart, parts_of}
+use Rattle.kp_step.specs.ReadyParts.{IsReadyPart, HasInstance, parts_of}
 use Rattle.kp_step.specs.Firings.{clauses_of_firing, FiresOn}
 use Rattle.kp_step.specs.declared.firing.Firing.{Firing}
 use Rattle.kp_step.proofs.SilentLemmas.{fires_nowhere_there}
@@ -167,11 +167,11 @@ all_ready g used s m [] h = tt
 all_ready g used s m (p ∷ parts) h = (h.0.ready, all_ready g used s m parts h.1)
 
 -- those that are left, as far as that is decided
-pub left_told : (t : Theory) (used : List Text) (s y : SymbolicState) (place : ℕ) (found : List RewriteRule) (f : PlacedFiring) (g : KoreSignature) (i : IsFiringOf t used s place f) (turns : List PlacedTurn) (most : ℕ) (parts : List NumberedPart) (d : decisions.Decided) → g ≡ t.signature → y ≡ s → AllZip (IsRuleAt t) turns found → MeetsRule t.signature s i.rule.body → AllMeet t.signature s found → IsMost t.signature y (i.rule ∷ found) most →
+pub left_told : (t : Theory) (used : List Text) (s y : SymbolicState) (place : ℕ) (found : List RewriteRule) (f : PlacedFiring) (g : KoreSignature) (i : IsFiringOf t used s place f) (turns : List PlacedTurn) (most : ℕ) (parts : List NumberedPart) (d : decisions.Decided) → g ≡ t.signature → y ≡ s → HasInstance t.signature (whole s) → AllZip (IsRuleAt t) turns found → MeetsRule t.signature s i.rule.body → AllMeet t.signature s found → IsMost t.signature y (i.rule ∷ found) most →
     AreUntaken g used (Some i.rule) found (whole s) f.part.part parts → (AllByRecursion (IsReadyPart g used) parts → AreDecided g y most parts d) → TellsParts t used s place found f.part.part d
-left_told t used s y place found f g i turns most parts d e same z own all m l told =
+left_told t used s y place found f g i turns most parts d e same there z own all m l told =
     let k : AreDecided g y most parts d = told (all_ready g used (whole s) f.part.part parts l.each) in
-    parts_told t used s place found f i turns most parts d z own all (subst (λ x. IsMost t.signature x (i.rule ∷ found) most) same m) (subst (λ h. AreUntaken h used (Some i.rule) found (whole s) f.part.part parts) e l)
+    parts_told t used s place found f i turns most parts d there z own all (subst (λ x. IsMost t.signature x (i.rule ∷ found) most) same m) (subst (λ h. AreUntaken h used (Some i.rule) found (whole s) f.part.part parts) e l)
     (subst (λ h. AreDecided h s most parts d) e (subst (λ x. AreDecided g x most parts d) same k))
 
 -- ---- its turn

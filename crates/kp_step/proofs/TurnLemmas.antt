@@ -13,7 +13,7 @@ use Rattle.kp_case_laws.specs.Turns.{FiresFirst}
 use Rattle.kp_unify.specs.Narrowed.{NumberedPart}
 use Rattle.kp_unify.specs.declared.part.Part.{Part}
 use Rattle.kp_satisfiability.specs.Read.{HasSortedClauses}
-use Rattle.kp_step.specs.ReadyParts.{parts_of}
+use Rattle.kp_step.specs.ReadyParts.{HasInstance, parts_of}
 use Rattle.kp_step.specs.Meets.{MeetsRule, AllMeet}
 use Rattle.kp_step.specs.Counted.{IsMost}
 use Rattle.kp_step.proofs.CountLemmas.{counted_for}
@@ -29,6 +29,7 @@ use Rattle.kp_step.specs.declared.part_answers.Decided as decisions
 use Rattle.kp_step.specs.declared.part_answers.Decided.TheVariants as decided
 use Rattle.kp_step.proofs.AnswerLemmas.{MayBe}
 use Rattle.kp_step.proofs.CauseLemmas.{undecided_rule}
+use Rattle.kp_step.proofs.DecideLemmas.{shown_of_instance}
 use Rattle.kp_step.proofs.FoundLemmas.{at_contains}
 use Rattle.kp_step.proofs.RemainderLemmas.{kept_is_left, kept_have}
 use Rattle.kp_step.proofs.SortedLemmas.{sorted_clauses}
@@ -80,18 +81,19 @@ nothing_there t used s place found f i none =
     }
 
 -- the parts that are left to it, as far as that is decided
-pub parts_told : (t : Theory) (used : List Text) (s : SymbolicState) (place : ℕ) (found : List RewriteRule) (f : PlacedFiring) (i : IsFiringOf t used s place f) (turns : List PlacedTurn) (most : ℕ) (parts : List NumberedPart) (d : decisions.Decided) → AllZip (IsRuleAt t) turns found → MeetsRule t.signature s i.rule.body → AllMeet t.signature s found → IsMost t.signature s (i.rule ∷ found) most →
+pub parts_told : (t : Theory) (used : List Text) (s : SymbolicState) (place : ℕ) (found : List RewriteRule) (f : PlacedFiring) (i : IsFiringOf t used s place f) (turns : List PlacedTurn) (most : ℕ) (parts : List NumberedPart) (d : decisions.Decided) → HasInstance t.signature (whole s) → AllZip (IsRuleAt t) turns found → MeetsRule t.signature s i.rule.body → AllMeet t.signature s found → IsMost t.signature s (i.rule ∷ found) most →
     AreUntaken t.signature used (Some i.rule) found (whole s) f.part.part parts → AreDecided t.signature s most parts d → TellsParts t used s place found f.part.part d
-parts_told t used s place found f i turns most parts (decided.Parts ks) z own all m l k = record {
+parts_told t used s place found f i turns most parts (decided.Parts ks) there z own all m l k = record {
   rule = i.rule;
   at = i.at;
   left = kept_is_left t.signature used (Some i.rule) found (whole s) f.part.part parts (numbered_views ks.items) k l;
   instances = kept_have t.signature parts (numbered_views ks.items) k;
 }
-parts_told t used s place found f i turns most parts (decided.UndecidedClauses o) z own all m l k =
+parts_told t used s place found f i turns most parts (decided.UndecidedClauses o) there z own all m l k =
     let shows = k.2 in
     let compares = counted_for t.signature s k.0.part.state (i.rule ∷ found) most shows.0 o.over m k.3 shows.1 in
-    (i.rule, i.at, shows.0, shows.1, undecided_rule t used s f.part.part i.rule i.read found parts k.0 (clauses_view o.shown.items) shows.0 i.body (rules_in_theory t turns found z) own all l k.1 shows.2 compares)
+    let shown = shown_of_instance t.signature s k.0.part.state (clauses_view o.shown.items) shows.0 there shows.2 in
+    (i.rule, i.at, shows.0, shows.1, undecided_rule t used s f.part.part i.rule i.read found parts k.0 (clauses_view o.shown.items) shows.0 i.body (rules_in_theory t turns found z) own all l k.1 shown compares)
 
 -- ---- the parts of a turn
 

@@ -1,13 +1,14 @@
 -- What the code finds of parts and rules, and when that is right.
-use Rattle.std.specs.Prelude.{◌≡◌, ℕ, List, [], ◌++◌, ◌∷◌, Option, Some, None, map, ⊤}
+use Rattle.std.specs.Prelude.{◌≡◌, ◌⊎◌, ℕ, List, [], ◌++◌, ◌∷◌, Option, Some, None, map, ⊤}
 use Rattle.std.specs.List.{AllByRecursion, Contains}
 use Rattle.kp_kore.specs.Syntax.{Text}
 use Rattle.kp_kore.specs.Signature.{KoreSignature}
 use Rattle.kp_kore.specs.Rules.{RewriteRule}
 use Rattle.kp_kore.specs.Theory.{Theory}
 use Rattle.kp_kore.specs.Steps.{Fires, HasTurn, IsUnknownBy, IsUnknown}
-use Rattle.kp_symbolic.specs.States.{SymbolicState}
-use Rattle.kp_symbolic.specs.Verdicts.{Weighed, undecided, IsRightVerdict}
+use Rattle.kp_symbolic.specs.States.{Literal, SymbolicState}
+use Rattle.kp_symbolic.specs.Plain.{rough_clauses}
+use Rattle.kp_symbolic.specs.Verdicts.{Weighed, undecided, IsStateUndecided, IsTooHeavy, IsRightVerdict}
 use Rattle.kp_satisfiability.specs.Answers.{IsWeighedAs}
 use Rattle.kp_satisfiability.specs.Read.{HasSortedClauses}
 use Rattle.kp_rules.specs.Skeletons.{Form}
@@ -24,7 +25,7 @@ use Rattle.kp_step.specs.ReadyParts.{HasInstance, parts_of}
 use Rattle.kp_step.specs.Remainders.{AreUntaken, AreKept}
 use Rattle.kp_step.specs.Found.{PlacedTurn, IsTurnAt, AreTriedBefore, AreAllFound}
 use Rattle.kp_step.specs.Tries.{PlacedFiring, AreTurnParts, AreRemaining}
-use Rattle.kp_step.specs.Causes.{IsShownOf, AreAllBefore, IsUndecidedStep, MeetsForeign}
+use Rattle.kp_step.specs.Causes.{AreAllBefore, IsUndecidedStep, MeetsForeign}
 use Rattle.kp_step.specs.Views.{numbered_views, turn_view}
 use Rattle.kp_step.specs.RightSteps.{IsRightStep}
 use Rattle.kp_step.specs.declared.part_answers.UndecidedClauses.{UndecidedClauses}
@@ -45,14 +46,27 @@ use Rattle.kp_step.specs.declared.outcome.StepOutcome.{StepOutcome}
 abbrev pub IsRightUndecided : KoreSignature → SymbolicState → UndecidedClauses → Type 0
 IsRightUndecided g p o = (h : Option Weighed) × IsWeighedAs h o.over × IsRightVerdict g p (undecided (clauses_view o.shown.items) h)
 
+-- what is shown of a part that isn't decided, whether or not the state has an instance: where the part passes a weight, the state's
+-- own clauses that aren't plain, if there are any
+abbrev pub IsShownBeside : KoreSignature → SymbolicState → SymbolicState → List (List Literal) → Option Weighed → Type 0
+IsShownBeside g s p shown None = IsStateUndecided g p shown
+    ⊎ ((h : Weighed) × (all : List (List Literal)) × IsTooHeavy g p all h × (¬ (rough_clauses g s ≡ [])) × (shown ≡ rough_clauses g s))
+IsShownBeside g s p shown (Some h) = IsTooHeavy g p shown h × (rough_clauses g s ≡ [])
+
 -- these are shown of the part p of the state s
 abbrev pub ShowsOf : KoreSignature → SymbolicState → SymbolicState → UndecidedClauses → Type 0
-ShowsOf g s p o = (h : Option Weighed) × IsWeighedAs h o.over × IsShownOf g s p (clauses_view o.shown.items) h
+ShowsOf g s p o = (h : Option Weighed) × IsWeighedAs h o.over × IsShownBeside g s p (clauses_view o.shown.items) h
 
 abbrev pub IsRightAnswerOf : KoreSignature → SymbolicState → SymbolicState → answers.PartAnswer → Type 0
 IsRightAnswerOf g s p answer.Instance = HasInstance g (whole p)
 IsRightAnswerOf g s p answer.Nothing = HasNoInstance g (whole p)
 IsRightAnswerOf g s p (answer.UndecidedClauses o) = ShowsOf g s p o
+
+-- what is answered of a state alone
+abbrev pub IsRightAnswerAlone : KoreSignature → SymbolicState → answers.PartAnswer → Type 0
+IsRightAnswerAlone g s answer.Instance = HasInstance g (whole s)
+IsRightAnswerAlone g s answer.Nothing = HasNoInstance g (whole s)
+IsRightAnswerAlone g s (answer.UndecidedClauses o) = IsRightUndecided g s o
 
 -- the left side meets the state where the part has an instance
 abbrev pub AreMet : KoreSignature → SymbolicState → Form → SymbolicState → Type 0

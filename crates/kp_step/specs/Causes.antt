@@ -8,8 +8,8 @@ use Rattle.kp_kore.specs.Instance.{Valuation, GivesSorts}
 use Rattle.kp_kore.specs.Rules.{RuleBody, rewrite, ForeignLeft, foreign_rule, RewriteRule, most_priority}
 use Rattle.kp_kore.specs.Theory.{Theory}
 use Rattle.kp_kore.specs.Steps.{Fires, HasTurn, IsUnknownBy}
-use Rattle.kp_symbolic.specs.States.{Literal, SymbolicState, IsStateInstance}
-use Rattle.kp_symbolic.specs.Plain.{rough_clauses}
+use Rattle.kp_symbolic.specs.States.{Literal, SymbolicState, IsStateInstance, CanBeTrue}
+use Rattle.kp_symbolic.specs.Plain.{plain_clauses, rough_clauses}
 use Rattle.kp_symbolic.specs.Verdicts.{Weighed, IsStateUndecided, IsTooHeavy}
 use Rattle.kp_case_laws.specs.Parts.{StatePart, whole, OfEachInstance}
 use Rattle.kp_case_laws.specs.Firing.{AreWhere}
@@ -32,12 +32,20 @@ abbrev pub IsAsked : KoreSignature → Option RewriteRule → List RewriteRule �
 IsAsked g (Some r) turns c = MayRewrite g r.body c × NoneGoesBefore g turns r c
 IsAsked g None turns c = NoneOfThese g turns c
 
--- What is shown of a part that isn't decided: its clauses that aren't plain. Where a weight is passed, the state's own that
--- aren't plain, if there are any; else all clauses of the part, with the weight.
+-- the state's own clauses that aren't plain are shown of a part that passes a weight; those that are plain can be true
+pub record ShowsOwn (g : KoreSignature) (s p : SymbolicState) (shown : List (List Literal)) : Type 0 where
+  pub weight : Weighed
+  pub all : List (List Literal)
+  pub heavy : IsTooHeavy g p all weight
+  pub plain : CanBeTrue g s.variables (plain_clauses g s)
+  pub some : ¬ (rough_clauses g s ≡ [])
+  pub are : shown ≡ rough_clauses g s
+
+-- What is shown of a part that isn't decided: its clauses that aren't plain. Where it passes a weight, the state's own that
+-- aren't plain, if there are any; else all clauses of the part, with the weight, as where the state's own clauses pass it.
 abbrev pub IsShownOf : KoreSignature → SymbolicState → SymbolicState → List (List Literal) → Option Weighed → Type 0
-IsShownOf g s p shown None = IsStateUndecided g p shown
-    ⊎ ((h : Weighed) × (all : List (List Literal)) × IsTooHeavy g p all h × (¬ (rough_clauses g s ≡ [])) × (shown ≡ rough_clauses g s))
-IsShownOf g s p shown (Some h) = IsTooHeavy g p shown h × (rough_clauses g s ≡ [])
+IsShownOf g s p shown None = IsStateUndecided g p shown ⊎ ShowsOwn g s p shown
+IsShownOf g s p shown (Some h) = IsTooHeavy g p shown h × ((rough_clauses g s ≡ []) ⊎ IsTooHeavy g s s.clauses h)
 
 -- a foreign rule is asked by itself, and the state before all rules
 abbrev pub IsAskedAlone : SymbolicState → Option RewriteRule → List RewriteRule → StatePart → Type 0
@@ -48,10 +56,11 @@ IsAskedAlone s None turns part = (turns ≡ []) × (part ≡ whole s)
 abbrev pub AreAllBefore : Theory → SymbolicState → Option RewriteRule → List RewriteRule → Type 0
 AreAllBefore t s rule turns = OfEachInstance t.signature (whole s) (λ w c. (q : RewriteRule) → Contains t.rules q → TakesFrom q rule → HasTurn t q c → Contains turns q)
 
--- It isn't decided whether one of the parts where something is asked has an instance. Each rule of a smaller priority number, and
--- each where none is asked of, has taken from the parts, but where a foreign rule or the state alone is asked of. That part comes of the state, of the rule
--- and of those that take from it, and nothing else stands in it; each of these rules meets the state. Where a
--- weight is told, no more whole-number variables are compared than stand in the state and in these rules' left sides.
+-- It isn't decided whether one of the parts where something is asked has an instance. Each rule of a smaller priority number has taken
+-- from the parts, and each at all where no rule is asked for; but a foreign rule is asked for by itself, and the state before all
+-- rules. That part comes of the state, of the rule and of those that take from it, and nothing else stands in it; each of these rules
+-- meets the state. Where a weight is told, no more whole-number variables are compared than stand in the state and in these rules' left
+-- sides.
 pub record IsUndecidedStep (t : Theory) (s : SymbolicState) (rule : Option RewriteRule) (shown : List (List Literal)) (over : Option Weighed) : Type 0 where
   pub turns : List RewriteRule
   pub of_theory : AllByRecursion (Contains t.rules) turns

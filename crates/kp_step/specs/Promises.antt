@@ -50,7 +50,7 @@ use Rattle.kp_step.specs.Found.{PlacedTurn, IsRuleAt, IsMetIn, IsTurnAt, AreAllF
 use Rattle.kp_step.specs.Tries.{PlacedFiring, narrowed_of, IsLeftAt, IsFiringOf, CanMeet, AreTurnParts, AreRemaining}
 use Rattle.kp_step.specs.Follows.{IsNextOf, IsNextAt, AreNextsOf, IsSolvedPart}
 use Rattle.kp_step.specs.RightSides.{moved_state}
-use Rattle.kp_step.specs.Answers.{IsForeignAnswer, ShowsOf, AreDecided, AreWithout, TellsForeign, TellsTurn, TellsParts, TellsRemainder, firing_model}
+use Rattle.kp_step.specs.Answers.{IsRightUndecided, IsForeignAnswer, AreDecided, AreWithout, TellsForeign, TellsTurn, TellsParts, TellsRemainder, firing_model}
 use Rattle.kp_step.specs.Views.{numbered_views, turn_view, next_view, limit_view}
 use Rattle.kp_step.specs.RightSteps.{IsRightStep}
 use Rattle.kp_step.specs.declared.part_answers.PartAnswer.{PartAnswer}
@@ -298,7 +298,7 @@ StepsFromInstance setting rules s next result =
 -- the same, where the state's clauses aren't decided and these are shown
 abbrev pub StepsFromUndecided : {E : Type 0} → Setting → SymbolicState → UndecidedClauses → Result StepOutcome E → Type 0
 StepsFromUndecided setting s told result =
-    (t : Theory) (used : List Text) → signature_of setting ≡ t.signature → IsTold t.signature (whole s) → ShowsOf t.signature s s told → IfOk result (IsRightStep t used s)
+    (t : Theory) (used : List Text) → signature_of setting ≡ t.signature → IsTold t.signature (whole s) → IsRightUndecided t.signature s told → IfOk result (IsRightStep t used s)
 
 -- each step from the whole of a state is right, where that has an instance
 abbrev pub StepsByRules : {E : Type 0} → Setting → RuleSet → Part → Result StepOutcome E → Type 0

@@ -5,7 +5,7 @@ ghost use Rattle.kp_symbolic.specs.View.{state_view};
 ghost use Rattle.kp_satisfiability.specs.Read.{HasSortedClauses};
 ghost use Rattle.kp_unify.specs.Views.{signature_of, HasItsTable};
 ghost use Rattle.kp_step.specs.Views.{numbered_views};
-ghost use Rattle.kp_step.specs.Answers.{IsRightUndecided, ShowsOf, IsRightAnswerOf};
+ghost use Rattle.kp_step.specs.Answers.{IsRightUndecided, ShowsOf, IsRightAnswerOf, IsRightAnswerAlone};
 ghost use Rattle.kp_step.specs.Promises.{DecidesParts};
 
 use crate::counted_variables::told_within;
@@ -79,6 +79,25 @@ pub fn answer_of(
             let told = shown_of(alloc, setting, state, UndecidedClauses { shown, over })?;
             Ok(PartAnswer::UndecidedClauses { told })
         }
+    }
+}
+
+/// Whether a state has an instance. Where that isn't decided, what was decided is shown: its clauses that aren't plain, or all of them
+/// with the weight that they pass.
+pub fn answer_alone(
+    alloc: Global,
+    setting: Setting<'_>,
+    state: &State,
+) -> Result<PartAnswer, AllocError>
+    requires { HasItsTable setting }
+    ensures { let g = signature_of setting.entry in let s = state_view state.now in IfOk result (λ a. HasSortedClauses g s → IsRightAnswerAlone g s a) }
+{
+    match decide(alloc, setting.language.signature, setting.table, state)? {
+        Verdict::SomeValuation => Ok(PartAnswer::Instance),
+        Verdict::NoValuation => Ok(PartAnswer::Nothing),
+        Verdict::Undecided { shown, over } => Ok(PartAnswer::UndecidedClauses {
+            told: UndecidedClauses { shown, over },
+        }),
     }
 }
 

@@ -8,7 +8,7 @@ use crate::foreign::foreign;
 use crate::limits::{first_limit, limit_of, wide_in};
 use crate::next_states::{all_settled, nexts_of};
 use crate::outcome::StepOutcome;
-use crate::part_answers::{Decided, PartAnswer, UndecidedClauses, answer_of, decided_parts};
+use crate::part_answers::{Decided, PartAnswer, UndecidedClauses, answer_alone, decided_parts};
 use crate::remainders::left_after;
 use crate::turns::{Searched, Turn, find_turns};
 use kp_compile::CompileError;
@@ -163,7 +163,7 @@ pub fn step(
     requires { HasItsTable setting }
     ensures { StepsFrom setting.entry rules.now (state_view state.now) next result }
 {
-    match answer_of(alloc, setting, state, state)? {
+    match answer_alone(alloc, setting, state)? {
         PartAnswer::Nothing => Ok(StepOutcome::Empty),
         PartAnswer::Instance => from_state(alloc, setting, rules, state, next),
         PartAnswer::UndecidedClauses { told } => Ok(from_open(alloc, setting, state, told)?),

@@ -10,4 +10,4 @@ returns-in-Some c t used steps setting ready some =
 pub returns-in_ok-whole-in-None : goal.returns-in_ok-whole-in-None
 returns-in_ok-whole-in-None c t used steps setting ready some =
     c.by_rules.ensures t used (state_view c.args.state.now)
-    (step_from t used (state_view c.args.state.now) c.args.setting c.args.rules.now c.args.next (numbered_view c.in_ok-whole-in-None.field-0) steps setting c.in_ok-whole-in-None.ensures.view c.in_ok-whole-in-None.ensures.next ready) some
+    (step_from t used (state_view c.args.state.now) c.args.setting c.args.rules.now c.args.next (numbered_view c.in_ok-whole-in-None.field-0) steps setting c.in_ok-whole-in-None.ensures.view c.in_ok-whole-in-None.ensures.next ready some) some

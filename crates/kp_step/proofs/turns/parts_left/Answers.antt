@@ -12,4 +12,4 @@ returns c t used s found k z all place f at i own number same =
     let there = fires_at t used s place f g (numbered_view c.args.part) i k.steps.signature same in
     let parts = c.in_ok-parts.ensures t used i.rule found (whole s) f.part.part k.steps k.setting (number i.rule i.read i.at i.body) z there in
     let most = c.in_ok-most.ensures t i.rule found k.steps (form_here t used s place f c.args.left.now i at) z in
-    left_told t used s (state_view c.args.whole.now.state) place found f g i (map turn_view c.args.turns.now) c.in_ok-most.most (numbered_views c.in_ok-parts.parts.items) c.in_ok-decided_parts.field-0 k.steps.signature (ap (λ p. p.state) k.whole.is) z own all most parts (c.in_ok-decided_parts.ensures used)
+    left_told t used s (state_view c.args.whole.now.state) place found f g i (map turn_view c.args.turns.now) c.in_ok-most.most (numbered_views c.in_ok-parts.parts.items) c.in_ok-decided_parts.field-0 k.steps.signature (ap (λ p. p.state) k.whole.is) k.whole.instance z own all most parts (c.in_ok-decided_parts.ensures used)
