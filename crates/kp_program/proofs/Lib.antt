@@ -5,6 +5,7 @@ pub mod ClaimCauses
 pub mod GroundClaims
 pub mod Headline
 pub mod LocalExchanges
+pub mod MainAnswers
 pub mod PlainTexts
 pub mod Proving
 pub mod RequestsRead

@@ -4,7 +4,7 @@ use Rattle.std.specs.List.{AllByRecursion, AllZip}
 use Rattle.kp_kore.specs.Claims.{ReachabilityClaim, Holds}
 use Rattle.kp_graph.specs.Tree.{ProofNode}
 use Rattle.kp_graph.specs.Says.{TreeSays}
-use Rattle.std.specs.Prelude.{Result, Ok, Err, IfOk, OnErr}
+use Rattle.std.specs.Prelude.{◌^◌, Result, Ok, Err, IfOk, OnErr}
 use Rattle.kp_kore.specs.Signature.{KoreSignature}
 use Rattle.kp_claims.specs.Claims.{LabelledClaim, counted}
 use Rattle.kp_claims.specs.Items.{item_view, items_view}
@@ -27,6 +27,7 @@ use Rattle.kp_program.specs.Words.{ProveWords}
 use Rattle.kp_program.specs.declared.trouble.Trouble.{Trouble}
 use Rattle.kp_program.proofs.LocalExchanges.{replied_is_right}
 use Rattle.kp_program.proofs.GroundClaims.{ground_claims}
+use Rattle.kp_program.proofs.MainAnswers.{proof_asks, all_replied_at}
 use Rattle.kp_program.proofs.Theories.{main_theory}
 
 -- ---- one claim
@@ -44,10 +45,11 @@ pub serves_theory : (o : Opening) (t : Theory) (table : ModuleTable) → IsTheor
 serves_theory o t table is e meets = replied_is_right o t e is.main (meets o is.opens)
 
 pub outcome_is : (o : Opening) (t : Theory) (table : ModuleTable) (depth : ℕ) (claim : ReachabilityClaim) (after : LinkState) (tree : List ProofNode) (end : ProofOutcome) → IsTheoryOver table o t →
-    IsProved (state_over table) after claim depth tree end → TreeSays t [] [] claim tree → (end ≡ passed → Holds t claim) → ((n : ℕ) → end ≡ failed_at n → IsStuckAt t claim tree n) → IsOutcome o t depth claim end
-outcome_is o t table depth claim after tree end is p says holds stuck = record {
+    depth < 2 ^ 64 → IsProved (state_over table) after claim depth tree end → TreeSays t [] [] claim tree → (end ≡ passed → Holds t claim) → ((n : ℕ) → end ≡ failed_at n → IsStuckAt t claim tree n) → IsOutcome o t depth claim end
+outcome_is o t table depth claim after tree end is small p says holds stuck = record {
   exchanges = p.exchanges;
-  replied = all_into (state_over table).meets (IsRepliedBy o) (λ e meets. meets o is.opens) p.exchanges p.makes.met;
+  replied = all_replied_at o is.main.axioms p.exchanges is.main.bound (proof_asks claim depth p.exchanges tree end small p.proves)
+      (all_into (state_over table).meets (IsRepliedBy o) (λ e meets. meets o is.opens) p.exchanges p.makes.met);
   tree = tree;
   proves = p.proves;
   says = says;

@@ -46,15 +46,21 @@ pub record IsRepliedBy (o : Opening) (e : Exchange) : Type 0 where
   pub answer : IsAnswer o before e.frame reply after
   pub line : e.reply ≡ line_of reply
 
+-- the same before any module is added, and none is: of a question that names no module
+pub record IsRepliedAtOpening (o : Opening) (e : Exchange) : Type 0 where
+  pub reply : Option (List ℕ)
+  pub answer : IsAnswer o [] e.frame reply []
+  pub line : e.reply ≡ line_of reply
+
 -- ---- proofs
 
--- How the proof of a claim, by edges of at most so many steps, ended: each of its exchanges has the service's right reply,
--- the tree and the outcome are what the rounds make of them; the tree's arcs say what they say of the theory; where it
--- passed, the claim holds; where it failed at a node, each instance of the node's state is final, and some instance is
--- none of the right side.
+-- How the proof of a claim, by edges of at most so many steps, ended: each of its exchanges has the service's right reply at one
+-- book, the opening's own; the tree and the outcome are what the rounds make of them; the tree's arcs say what they say of the
+-- theory; where it passed, the claim holds; where it failed at a node, each instance of the node's state is final, and some
+-- instance is none of the right side.
 pub record IsOutcome (o : Opening) (t : Theory) (depth : ℕ) (claim : ReachabilityClaim) (outcome : ProofOutcome) : Type 0 where
   pub exchanges : List Exchange
-  pub replied : AllByRecursion (IsRepliedBy o) exchanges
+  pub replied : AllByRecursion (IsRepliedAtOpening o) exchanges
   pub tree : List ProofNode
   pub proves : Proves claim depth exchanges tree outcome
   pub says : TreeSays t [] [] claim tree

@@ -1,4 +1,4 @@
-use Rattle.std.proofs.Common.{◌≡◌, ◌∙◌, ap, subst, sym, rules, string_bytes}
+use Rattle.std.proofs.Common.{◌≡◌, ◌∙◌, ◌<◌, ◌^◌, ap, subst, sym, arith, rules, string_bytes}
 use Rattle.kp_claims.specs.Claims.{LabelledClaim}
 use Rattle.kp_graph.specs.TreeView.{tree_view}
 use Rattle.kp_client.specs.View.{outcome_view}
@@ -15,9 +15,10 @@ returns-in-Ok c = λ o t x is at ground.
     let serves = serves_theory o t table here in
     let told = told_theory o t in
     let copied : string_bytes c.in_ok-label.label ≡ string_bytes c.index-claims-place.result.label = search rules in
+    let small : c.args.max_depth < 2 ^ 64 = omega arith in
     record {
       label = copied ∙ ap (λ (i : LabelledClaim). i.label) (item_at c.args.claims.now c.args.place c.index-claims-place.result x c.index-claims-place.is c.requires.place at);
-      outcome = outcome_is o t table c.args.max_depth x.claim _ (tree_view c.in-Ok._tree) (outcome_view c.in-Ok.outcome) here
+      outcome = outcome_is o t table c.args.max_depth x.claim _ (tree_view c.in-Ok._tree) (outcome_view c.in-Ok.outcome) here small
           (c.in-Ok.ensures.proved x at)
           (c.in-Ok.ensures.says x told at serves ground.right)
           (c.in-Ok.ensures.holds x told at serves ground)
