@@ -3,9 +3,8 @@ use Rattle.std.proofs.Common.{◌≡◌, refl, sym, subst, ℕ, List, [], ◌∷
 use Rattle.std.specs.List.{AllByRecursion}
 use Rattle.kp_kore.specs.Syntax.{Text}
 use Rattle.kp_kore.specs.Signature.{KoreSignature}
-use Rattle.kp_kore.specs.Value.{Value, HasSort}
+use Rattle.kp_kore.specs.Value.{HasSort}
 use Rattle.kp_kore.specs.Sorted.{IsSorted}
-use Rattle.kp_kore.specs.Instance.{Valuation}
 use Rattle.kp_kore.specs.Rules.{rewrite, ForeignLeft, foreign_rule, RuleBody, RewriteRule}
 use Rattle.kp_kore.specs.Theory.{Theory}
 use Rattle.kp_kore.specs.Steps.{IsUnknownBy}
@@ -14,8 +13,9 @@ use Rattle.kp_symbolic.specs.States.{SymbolicState}
 use Rattle.kp_symbolic.proofs.WellSorted.{term_sorted}
 use Rattle.kp_symbolic_laws.specs.Runs.{HasOneSortEach}
 use Rattle.kp_symbolic.specs.View.{clauses_view}
-use Rattle.kp_rules.specs.Skeletons.{Form, Admits, skeleton_view}
+use Rattle.kp_rules.specs.Skeletons.{Form, skeleton_view}
 use Rattle.kp_rules.specs.declared.skeleton.Skeleton.{Skeleton}
+use Rattle.kp_overlap.specs.Overlaps.{MeetsForm}
 use Rattle.kp_case_laws.specs.Parts.{StatePart, whole, with_clauses, IsSortedPart, OfEachInstance}
 use Rattle.kp_case_laws.specs.Cases.{MetPart}
 use Rattle.kp_case_laws.specs.Courses.{form_variables}
@@ -43,7 +43,7 @@ use Rattle.kp_step.specs.declared.part_answers.PartAnswer as answers
 use Rattle.kp_step.specs.declared.part_answers.PartAnswer.TheVariants as answer
 use Rattle.kp_step.proofs.DecideLemmas.{shown_of_instance}
 use Rattle.kp_step.proofs.CauseLemmas.{open_foreign}
-use Rattle.kp_step.proofs.MeetLemmas.{foreign_meets}
+use Rattle.kp_step.proofs.MeetLemmas.{whole_sorted, instance_sort, instance_means, foreign_meets}
 use Rattle.kp_step.proofs.ForeignLemmas.{unknown_where, unknown_nowhere, nothing_unknown, meets_foreign}
 use Rattle.kp_step.proofs.FoundLemmas.{one_at, at_contains}
 use Rattle.kp_step.proofs.SortedLemmas.{sorted_clauses}
@@ -119,14 +119,19 @@ tells_apart t used s place k q w f apart rule at =
     (subst (λ p. OfEachInstance g p (λ v c. ¬ IsUnknownBy g (foreign_rule f.left) c)) w.is
     (unknown_nowhere g f.left (skeleton_view k) q.part (q.part ∷ []) f.stands (each_sorted g q.part w.ready.sorted, tt) apart)))
 
--- where its left side stands for no value at all
-pub tells_never : (t : Theory) (used : List Text) (s : SymbolicState) (place : ℕ) (k : Skeleton) (q : NumberedPart) → IsWholeReady t.signature used s q → IsForeignAt t place k → ((v : Valuation) (u : Value) → ¬ Admits t.signature v (skeleton_view k) u) → TellsForeign t s place answer.Nothing
-tells_never t used s place k q w f never rule at =
-    let g = t.signature in
-    let sorted = subst (λ p. OfEachInstance g p (λ v c. IsSorted g c)) w.is (each_sorted g q.part w.ready.sorted) in
-    subst (λ x. OfEachInstance g (whole s) (λ v c. ¬ IsUnknownBy g x.body c)) (one_at t place f.rule rule f.at at)
-    (subst (λ b. OfEachInstance g (whole s) (λ v c. ¬ IsUnknownBy g b c)) (sym f.body)
-    (λ v c h i u. let a = (f.stands c (sorted v c h i)).1 u in never a.0 c a.1))
+-- where its left side stands for no value that the state's term may have
+pub tells_unmet : (t : Theory) (used : List Text) (s : SymbolicState) (place : ℕ) (k : Skeleton) (q : NumberedPart) (g : KoreSignature) → g ≡ t.signature → IsWholeReady g used s q → IsForeignAt t place k → ¬ MeetsForm g q.part.state.sort q.part.state.term (skeleton_view k) → TellsForeign t s place answer.Nothing
+tells_unmet t used s place k q g same ready f unmet rule at =
+    let h = t.signature in
+    let w = subst (λ x. IsWholeReady x used s q) same ready in
+    let none = subst (λ p. ¬ MeetsForm h p.state.sort p.state.term (skeleton_view k)) w.is (subst (λ x. ¬ MeetsForm x q.part.state.sort q.part.state.term (skeleton_view k)) same unmet) in
+    let state = whole_sorted h used s q w in
+    subst (λ x. OfEachInstance h (whole s) (λ v c. ¬ IsUnknownBy h x.body c)) (one_at t place f.rule rule f.at at)
+    (subst (λ b. OfEachInstance h (whole s) (λ v c. ¬ IsUnknownBy h b c)) (sym f.body)
+    (λ v c sorts met u.
+    let own = instance_sort h s v c state sorts met in
+    let a = (f.stands c (s.sort, own)).1 u in
+    none (record { value = c; sort = own; of_state = v; is_term = instance_means h s v c state sorts met; of_rule = a.0; is_left = a.1 })))
 
 -- and where the rule isn't foreign
 pub tells_read : (t : Theory) (s : SymbolicState) (place : ℕ) → ((r : RewriteRule) (l : ForeignLeft) → IsAt t place r → ¬ (r.body ≡ foreign_rule l)) → TellsForeign t s place answer.Nothing

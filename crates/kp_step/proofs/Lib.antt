@@ -44,7 +44,6 @@ pub mod RemainderLemmas
 pub mod RightSideLemmas
 pub mod RuleLemmas
 pub mod SettledLemmas
-pub mod SharedLemmas
 pub mod SilentLemmas
 pub mod SolvedLemmas
 pub mod SortedLemmas

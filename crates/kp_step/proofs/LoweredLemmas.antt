@@ -1,24 +1,48 @@
 -- A left side in which each name stands at a sort of what its sorts share stands for the same values.
 use Rattle.std.proofs.Common.{◌≡◌, refl, sym, ap, subst, ◌∙◌, ◌↔◌, ℕ, ◌+◌, ◌<◌, ◌≤◌, List, [], ◌∷◌, ◌++◌, map, length, get_or, drop, Option, Some, None}
 use Rattle.std.specs.Prelude.{MatchOption, ⊤}
+use Rattle.std.specs.List.{AllByRecursion}
 use Rattle.kp_kore.specs.Syntax.{Text, KoreSort}
 use Rattle.kp_kore.specs.Parts.{SortedName}
 use Rattle.kp_kore.specs.Signature.{KoreSignature}
-use Rattle.kp_kore.specs.Value.{Value, whole, truth, token, constructed, no_values, next_value, HasSort, head_of}
+use Rattle.kp_kore.specs.Value.{Value, whole, truth, token, constructed, Values, no_values, next_value, HasSort, head_of}
 use Rattle.kp_kore.specs.Instance.{Valuation, GivesSorts}
 use Rattle.kp_kore.specs.Theory.{Theory}
 use Rattle.kp_kore.proofs.TurnLemmas.{of_member, each_member}
 use Rattle.kp_kore.proofs.ListLemmas.{one_left, none_left}
 use Rattle.kp_signature.proofs.SortLemmas.{has_sort_above}
+use Rattle.kp_symbolic.proofs.Distribution.{all_both}
 use Rattle.kp_symbolic.proofs.HeadLemmas.{head_from_sort}
 use Rattle.kp_symbolic.proofs.HeadQuestions.{sort_from_head}
-use Rattle.kp_rules.specs.Skeletons.{Form, one_of, built, Forms, no_forms, next_form, Admits, skeleton_view, forms_of}
+use Rattle.kp_rules.specs.Skeletons.{Form, anything, nothing, any_of, one_of, fixed, built, Forms, no_forms, next_form, Admits, AdmitAll, skeleton_view, forms_of}
 use Rattle.kp_rules.specs.declared.skeleton.Skeleton.{Skeleton}
 use Rattle.kp_case_laws.specs.Courses.{IsMeet, form_variables, all_form_variables}
 use Rattle.kp_step.specs.OneSort.{HasEachOf, IsLowest, IsLowered, AreLowered}
 use Rattle.kp_step.specs.Rules.{IsForeignAt}
 use Rattle.kp_step.proofs.OneSortLemmas.{AllOf, front_of}
-use Rattle.kp_step.proofs.SharedLemmas.{have_sorts}
+
+-- ---- what stands for a value
+
+-- each variable has a value of its sort
+abbrev pub HaveSorts : KoreSignature → Valuation → List SortedName → Type 0
+HaveSorts g v xs = AllByRecursion (λ x. HasSort g x.sort (v x.name)) xs
+
+mutual
+  pub have_sorts : (g : KoreSignature) (v : Valuation) (form : Form) (u : Value) → Admits g v form u → HaveSorts g v (form_variables form)
+  have_sorts g v anything u a = tt
+  have_sorts g v nothing u a = absurd a
+  have_sorts g v (any_of s) u a = tt
+  have_sorts g v (one_of x s) u a = (subst (λ z. HasSort g s z) a.0 a.1, tt)
+  have_sorts g v (fixed w) u a = tt
+  have_sorts g v (built f ks) (whole n) a = absurd a
+  have_sorts g v (built f ks) (truth b) a = absurd a
+  have_sorts g v (built f ks) (token s x) a = absurd a
+  have_sorts g v (built f ks) (constructed c us) a = all_have_sorts g v ks us a.1
+
+  all_have_sorts : (g : KoreSignature) (v : Valuation) (forms : Forms) (us : Values) → AdmitAll g v forms us → HaveSorts g v (all_form_variables forms)
+  all_have_sorts g v no_forms us a = tt
+  all_have_sorts g v (next_form k ks) no_values a = absurd a
+  all_have_sorts g v (next_form k ks) (next_value u us) a = all_both (λ x. HasSort g x.sort (v x.name)) (form_variables k) (all_form_variables ks) (have_sorts g v k u a.0) (all_have_sorts g v ks us a.1)
 
 -- ---- a sort of what sorts share
 

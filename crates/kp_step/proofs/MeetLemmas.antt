@@ -88,17 +88,22 @@ mutual
 
 -- ---- an instance of the state
 
+-- it has the state's sort, and is what the state's term may mean
+pub instance_sort : (g : KoreSignature) (s : SymbolicState) (w : Valuation) (c : Value) → IsSortedState g s → GivesSorts g w s.variables → IsStateInstance g w s c → HasSort g s.sort c
+instance_sort g s w c k h i = subst (λ u. HasSort g s.sort u) (sym i.term) (term_sorted g w s.sort s.term k.term (sorts_of_hand g w (term_variables s.term) s.variables k.term_at_hand h))
+
+pub instance_means : (g : KoreSignature) (s : SymbolicState) (w : Valuation) (c : Value) → IsSortedState g s → GivesSorts g w s.variables → IsStateInstance g w s c → MayMean g w s.term c
+instance_means g s w c k h i = subst (MayMean g w s.term) (sym i.term) (may_mean g w s.sort s.term k.term (sorts_of_hand g w (term_variables s.term) s.variables k.term_at_hand h))
+
 -- the left side stands for it
 pub instance_meets : (g : KoreSignature) (s : SymbolicState) (body : RuleBody) (w : Valuation) (c : Value) → IsSortedState g s → GivesSorts g w s.variables → IsStateInstance g w s c → IsOfLeft g body c → MeetsRule g s body
-instance_meets g s body w c k h i left =
-    let sorts = sorts_of_hand g w (term_variables s.term) s.variables k.term_at_hand h in
-    record {
-      value = c;
-      sort = subst (λ u. HasSort g s.sort u) (sym i.term) (term_sorted g w s.sort s.term k.term sorts);
-      valuation = w;
-      of_state = subst (MayMean g w s.term) (sym i.term) (may_mean g w s.sort s.term k.term sorts);
-      of_left = left;
-    }
+instance_meets g s body w c k h i left = record {
+  value = c;
+  sort = instance_sort g s w c k h i;
+  valuation = w;
+  of_state = instance_means g s w c k h i;
+  of_left = left;
+}
 
 fires_of_left : (g : KoreSignature) (body : RuleBody) (c : Value) → Fires g body c → IsOfLeft g body c
 fires_of_left g (rewrite m) c f = (f.0, (f.1.sorts, f.1.matches))

@@ -16,11 +16,10 @@ use crate::constrained;
 use crate::counted_variables::{most_of_left, told_within};
 use crate::left_variables::has_one_sort_each;
 use crate::lowered_sides::lowered;
-use crate::met_rules::answer_where_met;
+use crate::met_rules::{answer_where_met, can_meet};
 use crate::outcome::StepOutcome;
 use crate::part_answers::{PartAnswer, UndecidedClauses};
 use crate::rules::foreign_at;
-use crate::shared_sorts::has_shared_sorts;
 use kp_compile::CompileError;
 use kp_rule_sets::RuleSet;
 use kp_rules::Skeleton;
@@ -67,8 +66,26 @@ fn meets_at_one_sort(
     }
 }
 
-/// Whether a left side with one name at two sorts stands for an instance of the part. It stands for nothing, where two such sorts
-/// share no value. Refused where there is no sort of what they share.
+/// Whether a left side, in which each name is put at a sort of what its sorts share, stands for an instance of the part. Refused where
+/// there is no such sort.
+fn meets_lowered(
+    alloc: Global,
+    setting: Setting<'_>,
+    whole: &Part,
+    skeleton: &Skeleton,
+) -> Result<PartAnswer, CompileError>
+    requires { HasItsTable setting }
+    ensures { TellsSkeletonMeets setting.entry whole.now skeleton.now result }
+{
+    let low = lowered(alloc, setting.language.signature, skeleton, skeleton)?;
+    if !has_one_sort_each(&low) {
+        return Err(CompileError::Shape);
+    }
+    meets_at_one_sort(alloc, setting, whole, &low)
+}
+
+/// Whether a left side with one name at two sorts stands for an instance of the part: for none, where it stands for no value that
+/// the state's term may have. Refused where it does, and there is no sort of what two sorts of a name share.
 fn meets_at_two_sorts(
     alloc: Global,
     setting: Setting<'_>,
@@ -78,18 +95,14 @@ fn meets_at_two_sorts(
     requires { HasItsTable setting }
     ensures { TellsSkeletonMeets setting.entry whole.now skeleton.now result }
 {
-    if !has_shared_sorts(setting.table, setting.language.signature, skeleton) {
+    if !can_meet(alloc, setting, &whole.state, skeleton)? {
         return Ok(PartAnswer::Nothing);
     }
-    let low = lowered(alloc, setting.language.signature, skeleton, skeleton)?;
-    if !has_one_sort_each(&low) {
-        return Err(CompileError::Shape);
-    }
-    meets_at_one_sort(alloc, setting, whole, &low)
+    meets_lowered(alloc, setting, whole, skeleton)
 }
 
-/// Whether the left side of a foreign rule stands for an instance of the part. Refused where it has one name at two sorts that
-/// share a value, and there is no sort of all values that they share.
+/// Whether the left side of a foreign rule stands for an instance of the part. Refused where it has one name at two sorts and stands
+/// for a value that the state's term may have, and there is no sort of all values that two such sorts share.
 fn meets(
     alloc: Global,
     setting: Setting<'_>,

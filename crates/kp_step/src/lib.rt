@@ -24,7 +24,6 @@ pub mod placed_variables;
 pub mod remainders;
 pub mod right_side;
 pub mod rules;
-pub mod shared_sorts;
 pub mod stepping;
 pub mod turns;
 

@@ -1,8 +1,9 @@
 // Whether a part that a left side meets has an instance, and whether the left side meets the state at all.
-ghost use Rattle.std.specs.Prelude.{IfOk};
+ghost use Rattle.std.specs.Prelude.{◌↔◌, IfOk, IsTrue};
 ghost use Rattle.kp_symbolic.specs.States.{SymbolicState};
 ghost use Rattle.kp_symbolic.specs.View.{state_view};
 ghost use Rattle.kp_rules.specs.Skeletons.{skeleton_view};
+ghost use Rattle.kp_overlap.specs.Overlaps.{MeetsForm};
 ghost use Rattle.kp_unify.specs.Views.{signature_of, HasItsTable};
 ghost use Rattle.kp_step.specs.Answers.{ShowsOf, AreMet, IsMetAnswer, TellsWhereMet};
 
@@ -13,6 +14,26 @@ use kp_rules::Skeleton;
 use kp_symbolic::State;
 use kp_unify::Setting;
 use std::alloc::{AllocError, Global};
+
+/// Whether the left side stands for a value that the state's term may have.
+pub fn can_meet(
+    alloc: Global,
+    setting: Setting<'_>,
+    state: &State,
+    left: &Skeleton,
+) -> Result<bool, AllocError>
+    requires { HasItsTable setting }
+    ensures { let s = state_view state.now in IfOk result (λ b. IsTrue b ↔ MeetsForm (signature_of setting.entry) s.sort s.term (skeleton_view left.now)) }
+{
+    meets(
+        alloc,
+        setting.table,
+        setting.language.signature,
+        &state.sort,
+        &state.term,
+        left,
+    )
+}
 
 /// What is answered of a part that is left open: it has no instance, where the left side meets no value that the state's term may have.
 fn open_where_met(

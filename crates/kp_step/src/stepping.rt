@@ -151,8 +151,8 @@ fn from_open(
 }
 
 /// One step of a state by the rules of a rule set. `Fresh` with each number from 1 below the next one is in use. Refused where
-/// a sum can't be written, where a foreign rule's left side has one name at two sorts that share a value and no sort has all values
-/// that they share, or for want of memory.
+/// a sum can't be written, where a foreign rule's left side has one name at two sorts, stands for a value that the state's term may have,
+/// and no sort has all values that the two share, or for want of memory.
 pub fn step(
     alloc: Global,
     setting: Setting<'_>,
