@@ -26,8 +26,8 @@ use Rattle.kp_execute.specs.Answers.{RunAnswer, executed, what_is_undecided, IsR
 use Rattle.kp_execute.specs.Wants.{LacksInjection, TellsNoInjection}
 use Rattle.kp_execute.specs.declared.answer.ExecuteError.{ExecuteError}
 use Rattle.kp_execute.specs.declared.answer.ExecuteError.TheVariants as error
-use Rattle.kp_methods.specs.Executed.{IsExecuted, reply_of, IsUntold, no_injection, no_state, no_tag, IsUnderstoodAs, by_values, told, foreign, left_out, IsExecutedAs, faulty}
-use Rattle.kp_methods.specs.ExecutedLines.{IsLineOf, or_t2}
+use Rattle.kp_methods.specs.Executed.{IsExecuted, reply_of, IsUntold, no_injection, no_state, IsUnderstoodAs, by_values, told, foreign, left_out, IsExecutedAs, faulty}
+use Rattle.kp_methods.specs.ExecutedLines.{IsLineOf}
 
 -- ---- what was read
 
@@ -51,16 +51,6 @@ by_values_line s id options p o line is h =
 
 -- ---- answers
 
--- a line is that of the reply, or T2 stands in its place
-pub line_told : (id : RequestId) (o : Option (Vec ℕ Global)) (line : Vec ℕ Global) (reply : Option Data) → o ≡ Some line → IsLineOf o reply → line.items ≡ reply_bytes (or_t2 id reply)
-line_told id o line None is e = let none : Some line.items ≡ None = sym (ap (option_map (λ (b : Vec ℕ Global). b.items)) is) ∙ e in absurd (cc none)
-line_told id o line (Some d) is e = let some : Some line.items ≡ Some (reply_bytes d) = sym (ap (option_map (λ (b : Vec ℕ Global). b.items)) is) ∙ e in cc some
-
-pub t2_told : {E : Type 0} (r : Result (Vec ℕ Global) E) (id : RequestId) (o : Option (Vec ℕ Global)) (reply : Option Data) (f : StateFault) → o ≡ None → IsLineOf o reply → state_fault_view f ≡ not_verified other_shape →
-    IfOk r (λ line. line.items ≡ reply_bytes (error_reply id (state_fault_view f))) → IfOk r (λ line. line.items ≡ reply_bytes (or_t2 id reply))
-t2_told r id o None f is e t2 l = subst (λ x. IfOk r (λ line. line.items ≡ reply_bytes (error_reply id x))) t2 l
-t2_told r id o (Some d) f is e t2 l = let none : None ≡ Some (reply_bytes d) = sym (ap (option_map (λ (b : Vec ℕ Global). b.items)) is) ∙ e in absurd (cc none)
-
 -- the line of a result is that of its reply
 pub result_line : {E : Type 0} (r : Result (Option (Vec ℕ Global)) E) (id : RequestId) (tree reply : Option Data) → reply ≡ option_map (result_reply id) tree →
     IfOk r (λ line. option_map (λ (b : Vec ℕ Global). b.items) line ≡ option_map (λ (t : Data). reply_bytes (result_reply id t)) tree) → IfOk r (λ line. IsLineOf line reply)
@@ -77,14 +67,16 @@ pub undecided_line_of : {E : Type 0} (r : Result (Option (Vec ℕ Global)) E) (i
     IfOk r (λ line. option_map (λ (b : Vec ℕ Global). b.items) line ≡ option_map (λ (t : Data). reply_bytes (result_reply id t)) (aborted_tree depth state u)) → IfOk r (λ line. IsLineOf line (reply_of id a))
 undecided_line_of r id a depth state u is l = result_line r id (aborted_tree depth state u) (reply_of id a) (ap (reply_of id) is) l
 
--- the reply of a right answer is right, and so is T2 where it has none
-pub answered_as : (s : ServedTheory) (id : RequestId) (options : ExecuteOptions) (p : KorePattern) (a : RunAnswer) → state_fault s.theory.signature p ≡ None → IsRightAnswer s.theory (asked_options options) p a →
-    IsUnderstoodAs s id options p (or_t2 id (reply_of id a))
-answered_as s id options p a clear right = by (reply_of id a) refl
+-- the line of a right answer is that of a right reply
+pub line_told : (s : ServedTheory) (id : RequestId) (options : ExecuteOptions) (p : KorePattern) (a : RunAnswer) (o : Option (Vec ℕ Global)) (line : Vec ℕ Global) → state_fault s.theory.signature p ≡ None → IsRightAnswer s.theory (asked_options options) p a →
+    o ≡ Some line → IsLineOf o (reply_of id a) → IsReplyLine (IsUnderstoodAs s id options p) line.items
+line_told s id options p a o line clear right is e = by (reply_of id a) refl
   where
-    by : (o : Option Data) → reply_of id a ≡ o → IsUnderstoodAs s id options p (or_t2 id o)
-    by (Some reply) is = told a reply clear right is
-    by None is = left_out (no_tag id a right is)
+    by : (r : Option Data) → reply_of id a ≡ r → IsReplyLine (IsUnderstoodAs s id options p) line.items
+    by None k = let none : Some line.items ≡ None = sym (ap (option_map (λ (b : Vec ℕ Global). b.items)) is) ∙ (e ∙ ap (option_map reply_bytes) k) in absurd (cc none)
+    by (Some reply) k =
+        let some : Some line.items ≡ Some (reply_bytes reply) = sym (ap (option_map (λ (b : Vec ℕ Global). b.items)) is) ∙ (e ∙ ap (option_map reply_bytes) k) in
+        (reply, told a reply clear right k, cc some)
 
 -- ---- refusals
 

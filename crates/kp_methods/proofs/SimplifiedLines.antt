@@ -35,7 +35,7 @@ use Rattle.kp_simplify.specs.declared.answer.Simplified.{Simplified}
 use Rattle.kp_simplify.specs.declared.answer.Simplified.TheVariants as found
 use Rattle.kp_simplify.specs.declared.simplify_pattern.SimplifyError.{SimplifyError}
 use Rattle.kp_simplify.specs.declared.simplify_pattern.SimplifyError.TheVariants as error
-use Rattle.kp_methods.specs.Simplified.{IsRightAnswer, pattern_of, IsUntold, no_state, no_injection, no_tag, IsUnderstoodAs, told, foreign, left_out, IsSimplifiedAs, faulty, IsFaultTold, fault_told, IsReplyLine}
+use Rattle.kp_methods.specs.Simplified.{IsRightAnswer, pattern_of, IsUntold, no_state, no_injection, IsUnderstoodAs, told, foreign, left_out, IsSimplifiedAs, faulty, IsFaultTold, fault_told, IsReplyLine}
 use Rattle.kp_methods.proofs.Sorts.{sort_is}
 
 -- ---- lines
@@ -125,31 +125,17 @@ written : (x : Option (Vec ℕ Global)) (line : Vec ℕ Global) (make : Data →
 written x line make None is e = let none : Some line.items ≡ None = sym (ap (option_map (λ (b : Vec ℕ Global). b.items)) is) ∙ e in absurd (cc none)
 written x line make (Some d) is e = let some : Some line.items ≡ Some (make d) = sym (ap (option_map (λ (b : Vec ℕ Global). b.items)) is) ∙ e in (d, refl, cc some)
 
-unwritten : (x : Option (Vec ℕ Global)) (make : Data → List ℕ) (o : Option Data) → x ≡ None → option_map (λ (b : Vec ℕ Global). b.items) x ≡ option_map make o → o ≡ None
-unwritten x make None is e = refl
-unwritten x make (Some d) is e = let none : None ≡ Some (make d) = sym (ap (option_map (λ (b : Vec ℕ Global). b.items)) is) ∙ e in absurd (cc none)
-
 pub state_told : (g : KoreSignature) (p : KorePattern) (id : RequestId) (r : theory.Simplified) (q : KorePattern) (x : Option (Vec ℕ Global)) (line : Vec ℕ Global) → IsRightAnswer g p (answered r) → pattern_of r ≡ q → x ≡ Some line →
     option_map (λ (b : Vec ℕ Global). b.items) x ≡ option_map (λ (t : Data). reply_bytes (result_reply id t)) (simplified_tree q) → IsReplyLine (IsUnderstoodAs g id p) line.items
 state_told g p id r q x line right same is e =
     let t = written x line (λ t. reply_bytes (result_reply id t)) (simplified_tree q) is e in
     (result_reply id t.0, told (answered r) (result_reply id t.0) right (ap (option_map (λ (d : Data). result_reply id d)) (ap simplified_tree same ∙ t.1)), t.2)
 
-pub state_untold : (g : KoreSignature) (p : KorePattern) (id : RequestId) (r : theory.Simplified) (q : KorePattern) (x : Option (Vec ℕ Global)) → IsRightAnswer g p (answered r) → pattern_of r ≡ q → x ≡ None →
-    option_map (λ (b : Vec ℕ Global). b.items) x ≡ option_map (λ (t : Data). reply_bytes (result_reply id t)) (simplified_tree q) → IsUntold g p
-state_untold g p id r q x right same is e =
-    no_tag id (answered r) right (ap (option_map (λ (d : Data). result_reply id d)) (ap simplified_tree same ∙ unwritten x (λ t. reply_bytes (result_reply id t)) (simplified_tree q) is e))
-
 pub undecided_told : (g : KoreSignature) (p : KorePattern) (id : RequestId) (cause : Undecided) (f : Failure) (x : Option (Vec ℕ Global)) (line : Vec ℕ Global) → IsRightAnswer g p (what_is_undecided cause) → f ≡ undecided (parts_of_cause cause) → x ≡ Some line →
     option_map (λ (b : Vec ℕ Global). b.items) x ≡ option_map reply_bytes (failure_reply id f) → IsReplyLine (IsUnderstoodAs g id p) line.items
 undecided_told g p id cause f x line right same is e =
     let t = written x line reply_bytes (failure_reply id f) is e in
     (t.0, told (what_is_undecided cause) t.0 right (ap (failure_reply id) (sym same) ∙ t.1), t.2)
-
-pub undecided_untold : (g : KoreSignature) (p : KorePattern) (id : RequestId) (cause : Undecided) (f : Failure) (x : Option (Vec ℕ Global)) → IsRightAnswer g p (what_is_undecided cause) → f ≡ undecided (parts_of_cause cause) → x ≡ None →
-    option_map (λ (b : Vec ℕ Global). b.items) x ≡ option_map reply_bytes (failure_reply id f) → IsUntold g p
-undecided_untold g p id cause f x right same is e =
-    no_tag id (what_is_undecided cause) right (ap (failure_reply id) (sym same) ∙ unwritten x reply_bytes (failure_reply id f) is e)
 
 -- ---- the lines of refusals
 

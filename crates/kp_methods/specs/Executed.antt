@@ -44,11 +44,10 @@ reply_of id (what_is_undecided depth state u) = option_map (result_reply id) (ab
 -- ---- refusals
 
 -- why no answer is told of a verified pattern: it isn't one term and predicates; the signature has no inj, and one would stand in
--- what is written for the end of a right run; Kore JSON has no tag for a pattern in the answer
+-- what is written for the end of a right run
 pub data IsUntold (s : ServedTheory) (options : ExecuteOptions) (p : KorePattern) : Type 0 where
   no_state : state_fault s.theory.signature p ≡ Some place.other_shape → IsUntold s options p
   no_injection : meaning_of s.theory.signature injection_name ≢ injection → LacksInjection s.theory (asked_options options) p → IsUntold s options p
-  no_tag : (id : RequestId) (a : RunAnswer) → IsRightAnswer s.theory (asked_options options) p a → reply_of id a ≡ None → IsUntold s options p
 
 -- ---- replies
 

