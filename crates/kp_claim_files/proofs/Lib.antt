@@ -2,4 +2,5 @@ pub mod Circles
 pub mod ClaimsAt
 pub mod FirstFaults
 pub mod RuleUse
+pub mod SoundClaims
 pub mod Spelled

@@ -3,8 +3,7 @@ use Rattle.std.proofs.Common.{◌≡◌, refl, sym, ap, subst, ◌∙◌, ℕ, s
 use Rattle.std.specs.List.{find, list_any}
 use Rattle.std.specs.Option.{option_map}
 use Rattle.std.specs.Str.{bytes_eq}
-use Rattle.kp_kore.specs.Attributes.{has_mark}
-use Rattle.kp_kore.specs.Syntax.{Text, implication, Statement}
+use Rattle.kp_kore.specs.Syntax.{Text, Statement}
 use Rattle.kp_kore.specs.Signature.{KoreSignature}
 use Rattle.kp_kore.specs.Rules as model
 use Rattle.kp_kore.specs.Foreign.{Reads}
@@ -16,11 +15,11 @@ use Rattle.kp_rules.specs.Bodies.{IsReadAs, IsBodyOf, IsFaulty}
 use Rattle.kp_rules.specs.declared.rule.RuleBody.{RuleBody}
 use Rattle.kp_rules.specs.declared.rule.RuleBody.TheVariants.{Rewrite, Foreign}
 use Rattle.kp_claims.specs.Claims.{label_of}
-use Rattle.kp_claims.specs.Faults.{Fault, no_rule, bare_claim, unknown_label}
-use Rattle.kp_claim_sentences.specs.Claims.{dependencies_of, clear_sides, IsStatedAs}
+use Rattle.kp_claims.specs.Faults.{no_rule, bare_claim, unknown_label}
+use Rattle.kp_claim_sentences.specs.Claims.{clear_sides, StatedClaim, IsStatedAs}
 use Rattle.kp_claim_sentences.specs.Faults.{FileLabels, is_used, CanBeUsed, IsRuleFault, IsUsable, unknown_fault}
 use Rattle.kp_claim_sentences.specs.Items.{item_view, sorted_view}
-use Rattle.kp_claim_files.specs.Read.{reads_rule, sides_at, IsClear}
+use Rattle.kp_claim_files.specs.Read.{reads_rule, sides_at}
 use Rattle.kp_claim_sentences.specs.declared.item.FiledClaim.{FiledClaim}
 use Rattle.kp_claim_sentences.proofs.Noting.{equal_both_ways}
 use Rattle.kp_claim_sentences.proofs.LeftSorts.{left_has_one_sort}
@@ -49,11 +48,14 @@ or_nothing : (b : Bool) → (b || false) ≡ b
 or_nothing true = refl
 or_nothing false = refl
 
-pub used_same : (f : FileLabels) (s : Statement) (i : FiledClaim) → IsStatedAs s (item_view i) → is_used f s ≡ (i.circular || list_any (bytes_eq (string_bytes i.label)) f.used)
-used_same f s i h =
+pub used_stated : (f : FileLabels) (s : Statement) (c : StatedClaim) → IsStatedAs s c → is_used f s ≡ (c.circular || list_any (bytes_eq c.label) f.used)
+used_stated f s c h =
     ap (λ b. b || list_any (λ l. list_any (bytes_eq l) f.used) (option_to_list (label_of s.attributes))) (sym h.circular)
-    ∙ ap (λ o. i.circular || list_any (λ l. list_any (bytes_eq l) f.used) (option_to_list o)) h.label
-    ∙ ap (λ b. i.circular || b) (or_nothing (list_any (bytes_eq (string_bytes i.label)) f.used))
+    ∙ ap (λ o. c.circular || list_any (λ l. list_any (bytes_eq l) f.used) (option_to_list o)) h.label
+    ∙ ap (λ b. c.circular || b) (or_nothing (list_any (bytes_eq c.label) f.used))
+
+pub used_same : (f : FileLabels) (s : Statement) (i : FiledClaim) → IsStatedAs s (item_view i) → is_used f s ≡ (i.circular || list_any (bytes_eq (string_bytes i.label)) f.used)
+used_same f s i h = used_stated f s (item_view i) h
 
 pub not_used : (g : KoreSignature) (f : FileLabels) (s : Statement) → is_used f s ≡ false → IsUsable g f s
 not_used g f s h = λ t. absurd (cc (sym h ∙ t))
