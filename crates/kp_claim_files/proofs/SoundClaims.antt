@@ -138,9 +138,10 @@ all_used : (ss : List KoreSentence) → AllByRecursion (AreUsed (flat_map depend
 all_used [] = tt
 all_used (s ∷ ss) =
     let more = flat_map dependencies_at ss in
-    let all = dependencies_at s ++ more in
-    (all_map (λ l. list_any (bytes_eq l) (dependencies_at s) ≡ true) (λ l. list_any (bytes_eq l) all ≡ true) (dependencies_at s) (λ l h. listed_left l (dependencies_at s) more h) (listed_own (dependencies_at s)),
-    all_map (AreUsed more) (AreUsed all) ss (λ t u. all_map (λ l. list_any (bytes_eq l) more ≡ true) (λ l. list_any (bytes_eq l) all ≡ true) (dependencies_at t) (λ l h. listed_right l (dependencies_at s) more h) u) (all_used ss))
+    let all = dependencies_at s ++ more in (
+      all_map (λ l. list_any (bytes_eq l) (dependencies_at s) ≡ true) (λ l. list_any (bytes_eq l) all ≡ true) (dependencies_at s) (λ l h. listed_left l (dependencies_at s) more h) (listed_own (dependencies_at s)),
+      all_map (AreUsed more) (AreUsed all) ss (λ t u. all_map (λ l. list_any (bytes_eq l) more ≡ true) (λ l. list_any (bytes_eq l) all ≡ true) (dependencies_at t) (λ l h. listed_right l (dependencies_at s) more h) u) (all_used ss),
+    )
 
 -- ---- all claims
 
@@ -149,9 +150,10 @@ sound_each : (g : KoreSignature) (file : FileLabels) (all : List StatedClaim) (s
 sound_each g file all [] [] good own used is = tt
 sound_each g file all [] (c ∷ cs) good own used is = absurd is
 sound_each g file all (s ∷ ss) [] good own used is = absurd is
-sound_each g file all (s ∷ ss) (c ∷ cs) good own used is =
-    (record { claim = own.0.claim; circularity = own.0.circularity; dependencies = rules_at g file all (dependencies_at s) good used.0 },
-    sound_each g file all ss cs good own.1 used.1 is.1)
+sound_each g file all (s ∷ ss) (c ∷ cs) good own used is = (
+  record { claim = own.0.claim; circularity = own.0.circularity; dependencies = rules_at g file all (dependencies_at s) good used.0 },
+  sound_each g file all ss cs good own.1 used.1 is.1,
+)
 
 pub claims_are_sound : (g : KoreSignature) (ss : List KoreSentence) (cs : List StatedClaim) → AreFaultless g (file_labels ss) [] ss → AllZip IsStatedBy ss cs → AreSoundClaims g cs (needs_of ss)
 claims_are_sound g ss cs h is =
