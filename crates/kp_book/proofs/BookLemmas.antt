@@ -1,10 +1,10 @@
 -- What a name means stays when the book grows; axioms that are apart stand once.
-use Rattle.std.proofs.Common.{◌≡◌, refl, sym, ap, subst, Bool, true, false, List, [], ◌∷◌, ◌++◌, Option, Some, None}
+use Rattle.std.proofs.Common.{◌≡◌, refl, sym, ap, suc, length, subst, ◌∙◌, append-nil, append_assoc, Bool, true, false, List, [], ◌∷◌, ◌++◌, Option, Some, None}
 use Rattle.std.specs.Prelude.{if◌then◌else◌, ⊤}
 use Rattle.std.specs.List.{list_any}
 use Rattle.kp_kore.specs.Syntax.{Text}
 use Rattle.kp_kore.specs.Theory.{NumberedAxiom}
-use Rattle.kp_book.specs.Books.{Opening, Registration, binds, rules_in, rules_bound, first_of, meaning_in, is_same_axiom, each_axiom_once, Grows}
+use Rattle.kp_book.specs.Books.{Opening, Registration, binds, rules_in, rules_bound, first_of, meaning_in, is_same_axiom, each_axiom_once, Grows, Seen, SeenGrows, at_book, with_own}
 
 bound_stays : (name : Text) (book more : List Registration) (axioms : List NumberedAxiom) → rules_bound book name ≡ Some axioms → rules_bound (book ++ more) name ≡ Some axioms
 bound_stays name [] more axioms e = absurd (cc)
@@ -20,6 +20,30 @@ meaning_stays o book later name axioms grows e = subst (λ b. meaning_in o b nam
     by_opening : (r : Option (List NumberedAxiom)) → first_of r (rules_bound book name) ≡ Some axioms → first_of r (rules_bound (book ++ grows.0) name) ≡ Some axioms
     by_opening (Some x) e = e
     by_opening None e = bound_stays name book grows.0 axioms e
+
+-- ---- what is seen grows
+
+pub grows_none : (book : List Registration) → Grows book book
+grows_none book = ([], sym (append-nil book))
+
+pub grows_on : (before between after : List Registration) → Grows before between → Grows between after → Grows before after
+grows_on before between after p q = (p.0 ++ q.0, q.1 ∙ ap (λ x. x ++ q.0) p.1 ∙ append_assoc before p.0 q.0)
+
+pub seen_grows_none : (seen : Seen) → SeenGrows seen seen
+seen_grows_none seen = record { book = grows_none seen.book; own = ([], sym (append-nil seen.own)) }
+
+pub seen_grows_on : (before between after : Seen) → SeenGrows before between → SeenGrows between after → SeenGrows before after
+seen_grows_on before between after p q = record {
+  book = grows_on before.book between.book after.book p.book q.book;
+  own = (p.own.0 ++ q.own.0, q.own.1 ∙ ap (λ x. x ++ q.own.0) p.own.1 ∙ append_assoc before.own p.own.0 q.own.0);
+}
+
+-- where the book alone grows, or gets an entry of the pass's own behind
+pub at_grows : (at : List Registration) (seen : Seen) → Grows seen.book at → SeenGrows seen (at_book at seen)
+at_grows at seen grows = record { book = grows; own = ([], sym (append-nil seen.own)) }
+
+pub own_grows : (between : List Registration) (r : Registration) (seen : Seen) → Grows seen.book between → SeenGrows seen (with_own between r seen.own)
+own_grows between r seen grows = record { book = grows_on seen.book between (between ++ r ∷ []) grows (r ∷ [], refl); own = (suc (length between) ∷ [], refl) }
 
 -- no two of the list are the same axiom
 pub AreApart : List NumberedAxiom → List NumberedAxiom → Type 0

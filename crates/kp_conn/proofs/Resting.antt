@@ -9,7 +9,7 @@ use Rattle.kp_io.specs.declared.fault.OutsideFault.{OutsideFault}
 use Rattle.kp_io.specs.declared.fault.OutsideFault.TheVariants as outside
 use Rattle.kp_frames.specs.Frames.{begins_bracketed, most_frame, Cuts, white, bracketed, malformed, unended, full}
 use Rattle.kp_frames.specs.Held.{Cutting, HasCut}
-use Rattle.kp_book.specs.Books.{Registration}
+use Rattle.kp_book.specs.Books.{Seen}
 use Rattle.kp_conn.specs.Conversations.{Sees, most_taken, frames_read, last_line, parse_error, Answered, none, not_begun, BrokenOff, Conversation, HasEnded, IsBroken, among, at_last, IsServed, ended, truncated, too_long, spent, not_read, not_written, out_of_memory}
 use Rattle.kp_conn.specs.Turns.{EndsMany, HasCounted, IsTurn, BrokenTurn, uncut, unanswered, Talks, IsLastPut, last_put, not_put, no_memory, end_behind, IsRestTold, no_rest, rest_told}
 use Rattle.kp_conn.specs.declared.served.Served.{Served}
@@ -93,9 +93,9 @@ one_more : (frames : List (List ℕ)) (rest : List ℕ) → ¬ (rest ≡ []) →
 one_more frames [] some = absurd (some refl)
 one_more frames (b ∷ rest) some = refl
 
-module _ (Answers : List Registration → List ℕ → Option (List ℕ) → List Registration → Type 0) (Begins : List Registration → List ℕ → List Registration → Type 0) where
+module _ (Answers : Seen → List ℕ → Option (List ℕ) → Seen → Type 0) (Begins : Seen → List ℕ → Seen → Type 0) where
   -- no byte was taken yet
-  pub begins_talking : (seen : List Registration) (l h : Option (List ℕ)) (c : Cutting) → c.limit ≡ most_frame → HasCut c [] [] → Appends h h [] → Talks Answers seen l l h h seen c 0 0
+  pub begins_talking : (seen : Seen) (l h : Option (List ℕ)) (c : Cutting) → c.limit ≡ most_frame → HasCut c [] [] → Appends h h [] → Talks Answers seen l l h h seen c 0 0
   begins_talking seen l h c e cut put = record {
     talk = record { taken = []; consumed = Consumes-nil l; frames = []; rest = c.rest; is_full = c.is_full; cut = subst (λ n. Cuts n [] [] c.rest c.is_full) e cut; lines = []; answered = none seen };
     rest = refl;
@@ -105,11 +105,11 @@ module _ (Answers : List Registration → List ℕ → Option (List ℕ) → Lis
     put = put;
   }
 
-  cut_of : (before after : List Registration) (l m h i : Option (List ℕ)) (c : Cutting) (taken frames : ℕ) → c.limit ≡ most_frame → (t : Talks Answers before l m h i after c taken frames) → HasCut c t.talk.taken t.talk.frames
+  cut_of : (before after : Seen) (l m h i : Option (List ℕ)) (c : Cutting) (taken frames : ℕ) → c.limit ≡ most_frame → (t : Talks Answers before l m h i after c taken frames) → HasCut c t.talk.taken t.talk.frames
   cut_of before after l m h i c taken frames e t =
       subst (λ n. Cuts n t.talk.taken t.talk.frames c.rest c.is_full) (sym e) (subst (λ r. Cuts most_frame t.talk.taken t.talk.frames r c.is_full) t.rest (subst (λ f. Cuts most_frame t.talk.taken t.talk.frames t.talk.rest f) t.full t.talk.cut))
 
-  pub talks_on : (before between after : List Registration) (l m n h i j : Option (List ℕ)) (c d : Cutting) (taken frames count : ℕ) (piece : List ℕ) →
+  pub talks_on : (before between after : Seen) (l m n h i j : Option (List ℕ)) (c d : Cutting) (taken frames count : ℕ) (piece : List ℕ) →
       c.limit ≡ most_frame → d.limit ≡ most_frame → Talks Answers before l m h i between c taken frames → Consumes m n piece → IsTurn Answers between c d piece i j after count →
       Talks Answers before l n h j after d (taken + length piece) (frames + count)
   talks_on before between after l m n h i j c d taken frames count piece e g t consumed turn = record {
@@ -131,21 +131,21 @@ module _ (Answers : List Registration → List ℕ → Option (List ℕ) → Lis
   }
 
   -- a turn over the first bytes of a piece
-  pub talks_turn : (before between after : List Registration) (l m n h i j : Option (List ℕ)) (c d : Cutting) (taken frames count k : ℕ) (piece : List ℕ) → k ≤ length piece →
+  pub talks_turn : (before between after : Seen) (l m n h i j : Option (List ℕ)) (c d : Cutting) (taken frames count k : ℕ) (piece : List ℕ) → k ≤ length piece →
       c.limit ≡ most_frame → d.limit ≡ most_frame → Talks Answers before l m h i between c taken frames → Consumes m n (take k piece) → IsTurn Answers between c d (take k piece) i j after count →
       Talks Answers before l n h j after d (taken + k) (frames + count)
   talks_turn before between after l m n h i j c d taken frames count k piece short e g t consumed turn =
       subst (λ x. Talks Answers before l n h j after d (taken + x) (frames + count)) (length-take-le k piece short) (talks_on before between after l m n h i j c d taken frames count (take k piece) e g t consumed turn)
 
-  all_done : (before after : List Registration) (frames : List (List ℕ)) (lines : List ℕ) → Answered Answers before frames lines after → BrokenOff Answers Begins before frames lines after
+  all_done : (before after : Seen) (frames : List (List ℕ)) (lines : List ℕ) → Answered Answers before frames lines after → BrokenOff Answers Begins before frames lines after
   all_done before after frames lines p = record { done = frames; more = []; are = sym (append-nil frames); lines = lines; between = after; answered = p; begun = not_begun after []; count = length lines; front = sym (take-length lines) }
 
-  pub read_broken : (before after : List Registration) (l m n h i : Option (List ℕ)) (c : Cutting) (taken frames : ℕ) → Talks Answers before l m h i after c taken frames → Keeps m n →
+  pub read_broken : (before after : Seen) (l m n h i : Option (List ℕ)) (c : Cutting) (taken frames : ℕ) → Talks Answers before l m h i after c taken frames → Keeps m n →
       IsServed Answers Begins before l n h i after served.ReadFault
   read_broken before after l m n h i c taken frames t kept = not_read (among t.talk.taken [] t.talk.frames t.talk.rest t.talk.lines t.talk.is_full
       (subst (Consumes l n) (sym (append-nil t.talk.taken)) (Consumes-kept l m n t.talk.taken t.talk.consumed kept)) t.talk.cut (all_done before after t.talk.frames t.talk.lines t.talk.answered) t.put)
 
-  pub turn_broken : (before between after : List Registration) (l m n h i j : Option (List ℕ)) (c d : Cutting) (taken frames : ℕ) (piece : List ℕ) →
+  pub turn_broken : (before between after : Seen) (l m n h i j : Option (List ℕ)) (c d : Cutting) (taken frames : ℕ) (piece : List ℕ) →
       c.limit ≡ most_frame → d.limit ≡ most_frame → Talks Answers before l m h i between c taken frames → Consumes m n piece → BrokenTurn Answers Begins between c d piece i j after →
       IsBroken Answers Begins before l n h j after
   turn_broken before between after l m n h i j c d taken frames piece e g t consumed (uncut same put) = among t.talk.taken piece t.talk.frames t.talk.rest t.talk.lines t.talk.is_full
@@ -158,12 +158,12 @@ module _ (Answers : List Registration → List ℕ → Option (List ℕ) → Lis
       (broken_behind Answers Begins before between after t.talk.frames news t.talk.lines b.written t.talk.answered b.broken)
       (Appends-trans h i j t.talk.lines b.written t.put b.put)
 
-  pub broken_served : (before after : List Registration) (l m h i : Option (List ℕ)) (fault : OutsideFault) (result : Served) → IsBroken Answers Begins before l m h i after →
+  pub broken_served : (before after : Seen) (l m h i : Option (List ℕ)) (fault : OutsideFault) (result : Served) → IsBroken Answers Begins before l m h i after →
       (fault ≡ outside.Failed → result ≡ served.WriteFault) → (fault ≡ outside.Memory → result ≡ served.Memory) → IsServed Answers Begins before l m h i after result
   broken_served before after l m h i outside.Failed result b failed memory = subst (IsServed Answers Begins before l m h i after) (sym (failed refl)) (not_written b)
   broken_served before after l m h i outside.Memory result b failed memory = subst (IsServed Answers Begins before l m h i after) (sym (memory refl)) (out_of_memory b)
 
-  moved : (before after : List Registration) (l m n : Option (List ℕ)) → (t : Conversation Answers before l m after) → Consumes m n [] → Conversation Answers before l n after
+  moved : (before after : Seen) (l m n : Option (List ℕ)) → (t : Conversation Answers before l m after) → Consumes m n [] → Conversation Answers before l n after
   moved before after l m n t nothing = record {
     taken = t.taken;
     consumed = subst (Consumes l n) (append-nil t.taken) (Consumes-trans l m n t.taken [] t.consumed nothing);
@@ -176,27 +176,27 @@ module _ (Answers : List Registration → List ℕ → Option (List ℕ) → Lis
   }
 
   -- what can't be read is told behind the conversation
-  last_told : (before after : List Registration) (l m h i j : Option (List ℕ)) (t : Conversation Answers before l m after) (end : Served) (result : Served) → ¬ (t.rest ≡ []) → Appends h i t.lines →
+  last_told : (before after : Seen) (l m h i j : Option (List ℕ)) (t : Conversation Answers before l m after) (end : Served) (result : Served) → ¬ (t.rest ≡ []) → Appends h i t.lines →
       (Appends h j (t.lines ++ last_line t.rest) → IsServed Answers Begins before l m h j after end) → IsLastPut end i j result → IsServed Answers Begins before l m h j after result
   last_told before after l m h i j t end result some put whole (last_put p) = whole (subst (λ x. Appends h j (t.lines ++ x)) (sym (line_for t.rest some)) (Appends-trans h i j t.lines _ put p))
   last_told before after l m h i j t end result some put whole (not_put n p) = not_written (at_last t n (subst (λ x. Appends h j (t.lines ++ take n x)) (sym (line_for t.rest some)) (Appends-trans h i j t.lines _ put p)))
   last_told before after l m h i j t end result some put whole (no_memory n p) = out_of_memory (at_last t n (subst (λ x. Appends h j (t.lines ++ take n x)) (sym (line_for t.rest some)) (Appends-trans h i j t.lines _ put p)))
 
-  pub long_told : (before after : List Registration) (l m h i j : Option (List ℕ)) (c : Cutting) (taken frames : ℕ) (result : Served) → Talks Answers before l m h i after c taken frames → c.is_full ≡ true →
+  pub long_told : (before after : Seen) (l m h i j : Option (List ℕ)) (c : Cutting) (taken frames : ℕ) (result : Served) → Talks Answers before l m h i after c taken frames → c.is_full ≡ true →
       length c.rest ≡ most_frame → IsLastPut served.TooLong i j result → IsServed Answers Begins before l m h j after result
   long_told before after l m h i j c taken frames result t e long p = last_told before after l m h i j t.talk served.TooLong result (λ none_left. absurd (omega (arith, long, ap length t.rest, ap length none_left))) t.put
       (λ put. too_long (record { talk = t.talk; full = t.full ∙ e; put = put })) p
 
-  pub spent_told : (before after : List Registration) (l m h i : Option (List ℕ)) (c : Cutting) (taken frames : ℕ) → Talks Answers before l m h i after c taken frames → c.is_full ≡ false → taken ≡ most_taken →
+  pub spent_told : (before after : Seen) (l m h i : Option (List ℕ)) (c : Cutting) (taken frames : ℕ) → Talks Answers before l m h i after c taken frames → c.is_full ≡ false → taken ≡ most_taken →
       IsServed Answers Begins before l m h i after served.Spent
   spent_told before after l m h i c taken frames t e all = spent (record { talk = t.talk; room = t.full ∙ e; spent = sym t.bytes ∙ all; put = t.put })
 
-  whole_end : (before after : List Registration) (l n h j : Option (List ℕ)) (t : Conversation Answers before l n after) (b : Bool) (frames : ℕ) → begins_bracketed t.rest ≡ b → ¬ (t.rest ≡ []) → IsAtEnd n → t.is_full ≡ false →
+  whole_end : (before after : Seen) (l n h j : Option (List ℕ)) (t : Conversation Answers before l n after) (b : Bool) (frames : ℕ) → begins_bracketed t.rest ≡ b → ¬ (t.rest ≡ []) → IsAtEnd n → t.is_full ≡ false →
       frames ≡ length t.frames → Appends h j (t.lines ++ last_line t.rest) → IsServed Answers Begins before l n h j after (if b then served.Truncated else served.Ended (suc frames))
   whole_end before after l n h j t true frames e some at_end room number put = truncated (record { talk = t; at_end = at_end; room = room; bracket = e; put = put })
   whole_end before after l n h j t false frames e some at_end room number put = ended (suc frames) (record { talk = t; at_end = at_end; room = room; no_bracket = e; put = put; count = ap suc number ∙ sym (one_more t.frames t.rest some) })
 
-  empty_end : (before after : List Registration) (l n h j : Option (List ℕ)) (t : Conversation Answers before l n after) (frames : ℕ) → t.rest ≡ [] → IsAtEnd n → t.is_full ≡ false → frames ≡ length t.frames → Appends h j t.lines →
+  empty_end : (before after : Seen) (l n h j : Option (List ℕ)) (t : Conversation Answers before l n after) (frames : ℕ) → t.rest ≡ [] → IsAtEnd n → t.is_full ≡ false → frames ≡ length t.frames → Appends h j t.lines →
       HasEnded Answers before l n h j after frames
   empty_end before after l n h j t frames e at_end room number put = record {
     talk = t;
@@ -207,7 +207,7 @@ module _ (Answers : List Registration → List ℕ → Option (List ℕ) → Lis
     count = number ∙ sym (ap (frames_read t.frames) e);
   }
 
-  pub end_told : (before after : List Registration) (l m n h i j : Option (List ℕ)) (c : Cutting) (taken frames : ℕ) (rest : List ℕ) (result : Served) → Talks Answers before l m h i after c taken frames → c.is_full ≡ false →
+  pub end_told : (before after : Seen) (l m n h i j : Option (List ℕ)) (c : Cutting) (taken frames : ℕ) (rest : List ℕ) (result : Served) → Talks Answers before l m h i after c taken frames → c.is_full ≡ false →
       rest ≡ c.rest → Consumes m n [] → IsAtEnd n → IsRestTold rest frames i j result → IsServed Answers Begins before l n h j after result
   unfolding moved
   end_told before after l m n h i j c taken frames rest result t e is_rest nothing at_end (no_rest none_left put) =
@@ -218,9 +218,9 @@ module _ (Answers : List Registration → List ℕ → Option (List ℕ) → Lis
       (λ put. whole_end before after l n h j (moved before after l m n t.talk nothing) (begins_bracketed rest) frames (ap begins_bracketed (t.rest ∙ sym is_rest)) (λ none_left. some (is_rest ∙ sym t.rest ∙ none_left)) at_end (t.full ∙ e) t.number put) p
 
   -- a turn behind what was seen
-  pub talks_seen : (Had Has : List Registration → Type 0) (before : List Registration) (l m n h i j : Option (List ℕ)) (c d : Cutting) (taken frames count k : ℕ) (piece : List ℕ) → k ≤ length piece →
+  pub talks_seen : (Had Has : Seen → Type 0) (before : Seen) (l m n h i j : Option (List ℕ)) (c d : Cutting) (taken frames count k : ℕ) (piece : List ℕ) → k ≤ length piece →
       c.limit ≡ most_frame → d.limit ≡ most_frame → Consumes m n (take k piece) → Sees Had before (λ after. Talks Answers before l m h i after c taken frames) →
-      ((between : List Registration) → Had between → Sees Has between (λ after. IsTurn Answers between c d (take k piece) i j after count)) →
+      ((between : Seen) → Had between → Sees Has between (λ after. IsTurn Answers between c d (take k piece) i j after count)) →
       Sees Has before (λ after. Talks Answers before l n h j after d (taken + k) (frames + count))
   talks_seen Had Has before l m n h i j c d taken frames count k piece short e g consumed s turn = sees_behind Has before s.after _ _ s.grows
       (λ after t. talks_turn before s.after after l m n h i j c d taken frames count k piece short e g s.holds consumed t) (turn s.after s.seen)

@@ -3,7 +3,7 @@ use Rattle.std.specs.Prelude.{◌≡◌, ℕ, suc, List, [], ◌∷◌, ◌++◌
 use Rattle.std.specs.Io.KnownBytes.{Appends}
 use Rattle.kp_frames.specs.Frames.{begins_bracketed}
 use Rattle.kp_frames.specs.Held.{Cutting, HasCut}
-use Rattle.kp_book.specs.Books.{Registration}
+use Rattle.kp_book.specs.Books.{Seen}
 use Rattle.kp_conn.specs.declared.served.Served.{Served}
 use Rattle.kp_conn.specs.declared.served.Served.TheVariants as served
 use Rattle.kp_conn.specs.Conversations.{Answered, BrokenOff, Conversation, parse_error}
@@ -27,36 +27,36 @@ pub record HasCounted (c : Cutting) (taken frames : ℕ) : Type 0 where
   pub frames_are : frames ≡ length ended
 
 -- these frames were answered, and their replies written
-pub record AreAnswered (Answers : List Registration → List ℕ → Option (List ℕ) → List Registration → Type 0)
-    (before : List Registration) (frames : List (List ℕ)) (held held_after : Option (List ℕ)) (after : List Registration) : Type 0 where
+pub record AreAnswered (Answers : Seen → List ℕ → Option (List ℕ) → Seen → Type 0)
+    (before : Seen) (frames : List (List ℕ)) (held held_after : Option (List ℕ)) (after : Seen) : Type 0 where
   pub lines : List ℕ
   pub answered : Answered Answers before frames lines after
   pub put : Appends held held_after lines
 
 -- answering these frames broke off
-pub record BreakOff (Answers : List Registration → List ℕ → Option (List ℕ) → List Registration → Type 0) (Begins : List Registration → List ℕ → List Registration → Type 0)
-    (before : List Registration) (frames : List (List ℕ)) (held held_after : Option (List ℕ)) (after : List Registration) : Type 0 where
+pub record BreakOff (Answers : Seen → List ℕ → Option (List ℕ) → Seen → Type 0) (Begins : Seen → List ℕ → Seen → Type 0)
+    (before : Seen) (frames : List (List ℕ)) (held held_after : Option (List ℕ)) (after : Seen) : Type 0 where
   pub written : List ℕ
   pub put : Appends held held_after written
   pub broken : BrokenOff Answers Begins before frames written after
 
 -- the piece ended so many frames, which were answered
-pub record IsTurn (Answers : List Registration → List ℕ → Option (List ℕ) → List Registration → Type 0)
-    (before : List Registration) (c d : Cutting) (piece : List ℕ) (held held_after : Option (List ℕ)) (after : List Registration) (count : ℕ) : Type 0 where
+pub record IsTurn (Answers : Seen → List ℕ → Option (List ℕ) → Seen → Type 0)
+    (before : Seen) (c d : Cutting) (piece : List ℕ) (held held_after : Option (List ℕ)) (after : Seen) (count : ℕ) : Type 0 where
   pub ended : List (List ℕ)
   pub ends : Ends c d piece ended
   pub number : count ≡ length ended
   pub answered : AreAnswered Answers before ended held held_after after
 
 -- the turn broke off: before the piece was cut, or among the frames that it ends
-pub data BrokenTurn (Answers : List Registration → List ℕ → Option (List ℕ) → List Registration → Type 0) (Begins : List Registration → List ℕ → List Registration → Type 0)
-    (before : List Registration) (c d : Cutting) (piece : List ℕ) (held held_after : Option (List ℕ)) (after : List Registration) : Type 0 where
+pub data BrokenTurn (Answers : Seen → List ℕ → Option (List ℕ) → Seen → Type 0) (Begins : Seen → List ℕ → Seen → Type 0)
+    (before : Seen) (c d : Cutting) (piece : List ℕ) (held held_after : Option (List ℕ)) (after : Seen) : Type 0 where
   uncut : after ≡ before → Appends held held_after [] → BrokenTurn Answers Begins before c d piece held held_after after
   unanswered : (ended : List (List ℕ)) → Ends c d piece ended → BreakOff Answers Begins before ended held held_after after → BrokenTurn Answers Begins before c d piece held held_after after
 
 -- a connection so far: all was answered, the cutter holds the rest, and so many bytes were taken and frames read
-pub record Talks (Answers : List Registration → List ℕ → Option (List ℕ) → List Registration → Type 0)
-    (before : List Registration) (left left_after held held_after : Option (List ℕ)) (after : List Registration) (c : Cutting) (taken frames : ℕ) : Type 0 where
+pub record Talks (Answers : Seen → List ℕ → Option (List ℕ) → Seen → Type 0)
+    (before : Seen) (left left_after held held_after : Option (List ℕ)) (after : Seen) (c : Cutting) (taken frames : ℕ) : Type 0 where
   pub talk : Conversation Answers before left left_after after
   pub rest : talk.rest ≡ c.rest
   pub full : talk.is_full ≡ c.is_full

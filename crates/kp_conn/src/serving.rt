@@ -12,6 +12,7 @@ use crate::turn::take_turn;
 use kp_frames::{Cutter, MOST_FRAME};
 use kp_io::{Failed, OutsideFault, Sink, Source, put_all};
 use std::alloc::Global;
+use std::sync::Wait;
 
 /// A connection ends after so many bytes.
 const MOST_TAKEN: u64 = 1_099_511_627_776;
@@ -113,7 +114,8 @@ fn end<K: Sink>(sink: &mut K, rest: &[u8], frames: u64) -> Served
 /// Serves one connection: takes bytes of the source as they come, answers each frame before more is taken, and writes
 /// each reply as a line. Ends where the source does, where a frame is too long, after 1,099,511,627,776 bytes, or at a
 /// fault of the outside.
-pub fn serve<A: Answerer, S: Source, K: Sink>(
+pub fn serve<R: Wait, A: Answerer, S: Source, K: Sink>(
+    rt: &R,
     alloc: Global,
     answerer: &A,
     pass: &mut A::Pass,
@@ -122,7 +124,7 @@ pub fn serve<A: Answerer, S: Source, K: Sink>(
 ) -> Served
     requires pass { A.is_pass answerer.now pass.old }
     ensures pass { A.is_pass answerer.now pass.new }
-    ensures served { let Seen = A.has_seen answerer.now in ForEachSeen (Seen pass.old) (Seen pass.new) (λ o before after. IsServed (A.answers answerer.now o) (A.begins answerer.now o) before (S.left source.old) (S.left source.new) (K.held sink.old) (K.held sink.new) after result) }
+    ensures served { let Has = A.has_seen answerer.now in ForEachSeen (Has pass.old) (Has pass.new) (λ o before after. IsServed (A.answers answerer.now o) (A.begins answerer.now o) before (S.left source.old) (S.left source.new) (K.held sink.old) (K.held sink.new) after result) }
     ensures read { CountsFault (S.fault_count source.old) (S.fault_count source.new) (result ≡ ReadFault) }
     ensures never_falls { K.fault_count sink.old ≤ K.fault_count sink.new }
     ensures rose { result ≡ WriteFault → Rose (K.fault_count sink.old) (K.fault_count sink.new) }
@@ -140,7 +142,15 @@ pub fn serve<A: Answerer, S: Source, K: Sink>(
         if count == 0 {
             return end(sink, &cutter.finish(), frames);
         }
-        match take_turn(alloc, answerer, pass, sink, &mut cutter, &piece[..count]) {
+        match take_turn(
+            rt,
+            alloc,
+            answerer,
+            pass,
+            sink,
+            &mut cutter,
+            &piece[..count],
+        ) {
             Ok(ended) => {
                 taken += count as u64;
                 frames += ended as u64;

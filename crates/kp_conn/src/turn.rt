@@ -10,9 +10,11 @@ use crate::answerer::Answerer;
 use kp_frames::Cutter;
 use kp_io::{OutsideFault, Sink, put_all};
 use std::alloc::Global;
+use std::sync::Wait;
 
 /// Answers a frame, and writes its reply as a line.
-fn answer_frame<A: Answerer, K: Sink>(
+fn answer_frame<R: Wait, A: Answerer, K: Sink>(
+    rt: &R,
     alloc: Global,
     answerer: &A,
     pass: &mut A::Pass,
@@ -21,13 +23,13 @@ fn answer_frame<A: Answerer, K: Sink>(
 ) -> Result<(), OutsideFault>
     requires pass { A.is_pass answerer.now pass.old }
     ensures pass { A.is_pass answerer.now pass.new }
-    ensures whole { let Seen = A.has_seen answerer.now in OnOk result (ForEachSeen (Seen pass.old) (Seen pass.new) (λ o before. AreAnswered (A.answers answerer.now o) before (frame.now ∷ []) (K.held sink.old) (K.held sink.new))) }
-    ensures broken { let Seen = A.has_seen answerer.now in OnErr result (ForEachSeen (Seen pass.old) (Seen pass.new) (λ o before. BreakOff (A.answers answerer.now o) (A.begins answerer.now o) before (frame.now ∷ []) (K.held sink.old) (K.held sink.new))) }
+    ensures whole { let Has = A.has_seen answerer.now in OnOk result (ForEachSeen (Has pass.old) (Has pass.new) (λ o before. AreAnswered (A.answers answerer.now o) before (frame.now ∷ []) (K.held sink.old) (K.held sink.new))) }
+    ensures broken { let Has = A.has_seen answerer.now in OnErr result (ForEachSeen (Has pass.old) (Has pass.new) (λ o before. BreakOff (A.answers answerer.now o) (A.begins answerer.now o) before (frame.now ∷ []) (K.held sink.old) (K.held sink.new))) }
     ensures never_falls { K.fault_count sink.old ≤ K.fault_count sink.new }
     ensures rose { IsErrOf result Failed → Rose (K.fault_count sink.old) (K.fault_count sink.new) }
     ensures stays { OnOk result (K.fault_count sink.new ≡ K.fault_count sink.old) }
 {
-    match answerer.answer(alloc, pass, frame)? {
+    match answerer.answer(rt, alloc, pass, frame)? {
         Some(reply) => put_line(sink, reply),
         None => Ok(()),
     }
@@ -49,7 +51,8 @@ fn put_line<K: Sink>(sink: &mut K, reply: Vec<u8>) -> Result<(), OutsideFault>
 }
 
 /// Answers these frames in order.
-fn answer_all<A: Answerer, K: Sink>(
+fn answer_all<R: Wait, A: Answerer, K: Sink>(
+    rt: &R,
     alloc: Global,
     answerer: &A,
     pass: &mut A::Pass,
@@ -58,20 +61,21 @@ fn answer_all<A: Answerer, K: Sink>(
 ) -> Result<(), OutsideFault>
     requires pass { A.is_pass answerer.now pass.old }
     ensures pass { A.is_pass answerer.now pass.new }
-    ensures whole { let Seen = A.has_seen answerer.now in OnOk result (ForEachSeen (Seen pass.old) (Seen pass.new) (λ o before. AreAnswered (A.answers answerer.now o) before (frames_of frames.now) (K.held sink.old) (K.held sink.new))) }
-    ensures broken { let Seen = A.has_seen answerer.now in OnErr result (ForEachSeen (Seen pass.old) (Seen pass.new) (λ o before. BreakOff (A.answers answerer.now o) (A.begins answerer.now o) before (frames_of frames.now) (K.held sink.old) (K.held sink.new))) }
+    ensures whole { let Has = A.has_seen answerer.now in OnOk result (ForEachSeen (Has pass.old) (Has pass.new) (λ o before. AreAnswered (A.answers answerer.now o) before (frames_of frames.now) (K.held sink.old) (K.held sink.new))) }
+    ensures broken { let Has = A.has_seen answerer.now in OnErr result (ForEachSeen (Has pass.old) (Has pass.new) (λ o before. BreakOff (A.answers answerer.now o) (A.begins answerer.now o) before (frames_of frames.now) (K.held sink.old) (K.held sink.new))) }
     ensures never_falls { K.fault_count sink.old ≤ K.fault_count sink.new }
     ensures rose { IsErrOf result Failed → Rose (K.fault_count sink.old) (K.fault_count sink.new) }
     ensures stays { OnOk result (K.fault_count sink.new ≡ K.fault_count sink.old) }
 {
     for at in 0..frames.len() {
-        answer_frame(alloc, answerer, pass, sink, &frames[at])?;
+        answer_frame(rt, alloc, answerer, pass, sink, &frames[at])?;
     }
     Ok(())
 }
 
 /// Answers the frames that a piece ends, and says how many there are.
-pub fn take_turn<A: Answerer, K: Sink>(
+pub fn take_turn<R: Wait, A: Answerer, K: Sink>(
+    rt: &R,
     alloc: Global,
     answerer: &A,
     pass: &mut A::Pass,
@@ -84,14 +88,14 @@ pub fn take_turn<A: Answerer, K: Sink>(
     ensures pass { A.is_pass answerer.now pass.new }
     ensures limit { cutter.new.limit ≡ cutter.old.limit }
     ensures many { IfOk result (EndsMany cutter.old cutter.new piece.now) }
-    ensures whole { let Seen = A.has_seen answerer.now in IfOk result (λ count. ForEachSeen (Seen pass.old) (Seen pass.new) (λ o before after. IsTurn (A.answers answerer.now o) before cutter.old cutter.new piece.now (K.held sink.old) (K.held sink.new) after count)) }
+    ensures whole { let Has = A.has_seen answerer.now in IfOk result (λ count. ForEachSeen (Has pass.old) (Has pass.new) (λ o before after. IsTurn (A.answers answerer.now o) before cutter.old cutter.new piece.now (K.held sink.old) (K.held sink.new) after count)) }
     ensures memory { OnOk result (cutter.new.is_out_of_memory ≡ false) }
-    ensures broken { let Seen = A.has_seen answerer.now in OnErr result (ForEachSeen (Seen pass.old) (Seen pass.new) (λ o before. BrokenTurn (A.answers answerer.now o) (A.begins answerer.now o) before cutter.old cutter.new piece.now (K.held sink.old) (K.held sink.new))) }
+    ensures broken { let Has = A.has_seen answerer.now in OnErr result (ForEachSeen (Has pass.old) (Has pass.new) (λ o before. BrokenTurn (A.answers answerer.now o) (A.begins answerer.now o) before cutter.old cutter.new piece.now (K.held sink.old) (K.held sink.new))) }
     ensures never_falls { K.fault_count sink.old ≤ K.fault_count sink.new }
     ensures rose { IsErrOf result Failed → Rose (K.fault_count sink.old) (K.fault_count sink.new) }
     ensures stays { OnOk result (K.fault_count sink.new ≡ K.fault_count sink.old) }
 {
     let ended = cutter.feed(alloc, piece)?;
-    answer_all(alloc, answerer, pass, sink, &ended)?;
+    answer_all(rt, alloc, answerer, pass, sink, &ended)?;
     Ok(ended.len())
 }

@@ -2,6 +2,7 @@ ghost use Rattle.std.specs.Prelude.{◌≡◌, ⊤, []};
 
 use kp_conn::Answerer;
 use std::alloc::{AllocError, Global};
+use std::sync::Wait;
 
 /// Answers each frame with itself, and `[]` not at all.
 #[derive(Drop)]
@@ -10,7 +11,7 @@ pub(crate) struct Echo {}
 impl Answerer for Echo {
     type Pass = u64;
 
-    ghost has_seen = { λ e p o seen. seen ≡ [] };
+    ghost has_seen = { λ e p o seen. seen.book ≡ [] };
 
     ghost is_pass = { λ e p. ⊤ };
 
@@ -18,8 +19,9 @@ impl Answerer for Echo {
 
     ghost begins = { λ e o before frame after. ⊤ };
 
-    fn answer(
+    fn answer<R: Wait>(
         &self,
+        _rt: &R,
         alloc: Global,
         pass: &mut u64,
         frame: &[u8],

@@ -2,6 +2,7 @@ use crate::echo::Echo;
 use kp_conn::{Served, serve};
 use kp_io::{Bytes, Drain};
 use std::alloc::{AllocError, Global};
+use std::sync::Wait;
 use std::test::Fail;
 
 /// The reply to bytes that are no frame.
@@ -23,7 +24,8 @@ type Row = (
 );
 
 /// Whether a connection of these bytes, where these calls of the source and of the sink fail, ends so, with this written.
-fn is_told(
+fn is_told<R: Wait>(
+    rt: &R,
     alloc: Global,
     bytes: &[u8],
     failing: (&[u64], &[u64]),
@@ -37,7 +39,7 @@ fn is_told(
     );
     let mut sink = Drain::new(alloc, Vec::from_slice(alloc, put)?);
     let mut pass = 0u64;
-    let found = serve(alloc, &Echo {}, &mut pass, &mut source, &mut sink);
+    let found = serve(rt, alloc, &Echo {}, &mut pass, &mut source, &mut sink);
     Ok(found == served && sink.bytes() == written.as_bytes())
 }
 
@@ -145,7 +147,7 @@ static ROWS: [Row; 13] = [
 #[test]
 fn frames_are_answered_in_order_and_faults_end_a_connection(rt: HostRuntime) -> Result<(), Fail> {
     for (said, bytes, read, put, served, written) in &ROWS {
-        match is_told(rt.alloc(), bytes, (*read, *put), *served, written) {
+        match is_told(&rt, rt.alloc(), bytes, (*read, *put), *served, written) {
             Ok(true) => {}
             _ => return Err(Fail::new(*said)),
         }
@@ -154,14 +156,14 @@ fn frames_are_answered_in_order_and_faults_end_a_connection(rt: HostRuntime) -> 
 }
 
 /// Whether it is told that a frame is too long which isn't ended after as many bytes as a frame may have.
-fn is_too_long(alloc: Global) -> Result<bool, AllocError> {
+fn is_too_long<R: Wait>(rt: &R, alloc: Global) -> Result<bool, AllocError> {
     let mut text = Vec::from_slice(alloc, b"[")?;
     text.resize(4_194_304, b' ')?;
     text.push(b']')?;
-    is_told(alloc, &text, (&[], &[]), Served::TooLong, PARSE_ERROR)
+    is_told(rt, alloc, &text, (&[], &[]), Served::TooLong, PARSE_ERROR)
 }
 
 #[test]
 fn a_frame_has_a_limit(rt: HostRuntime) {
-    assert_eq!(rt; is_too_long(rt.alloc()), Ok(true));
+    assert_eq!(rt; is_too_long(&rt, rt.alloc()), Ok(true));
 }
