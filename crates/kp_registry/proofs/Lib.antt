@@ -1,7 +1,10 @@
 pub mod Ascii
 pub mod Binders
+pub mod Continuing
 pub mod Entering
 pub mod Extended
+pub mod KnownBooks
 pub mod LegalLemmas
+pub mod PassesOf
 pub mod Rising
 pub mod Welcomed

@@ -1,4 +1,4 @@
--- What a pass has seen of the book, and its table of names.
+-- What a pass has seen of the book, and the book's table of names.
 -- Source: the K Haskell backend's JSON-RPC documentation (add-module, name-as-id).
 use Rattle.std.specs.Prelude.{◌≡◌, ◌≤◌, ◌*◌, ℕ, suc, Bool, true, false, ◌||◌, List, [], ◌∷◌, length, map, ⊤, Option, Some, None, if◌then◌else◌, string_bytes}
 use Rattle.std.specs.Option.{option_map, option_or}
@@ -17,9 +17,10 @@ use Rattle.kp_book.specs.Books.{Opening, Registration, meaning_in, most_entries}
 use Rattle.kp_modules.specs.Made.{IsSetOf}
 use Rattle.kp_modules.specs.Openings.{IsTableOf}
 use Rattle.kp_modules.specs.declared.table.ModuleTable.{ModuleTable}
+use Rattle.kp_registry.specs.Legal.{IsExtension, IsLegal}
 use Rattle.kp_registry.specs.declared.seen.NameBinding.{NameBinding}
 use Rattle.kp_registry.specs.declared.seen.Entry.{Entry}
-use Rattle.kp_registry.specs.declared.seen.Pass.{Pass}
+use Rattle.kp_registry.specs.declared.seen.Book.{Book}
 use Rattle.kp_registry.specs.declared.seen.Ready.{Ready}
 
 -- ---- what was seen
@@ -31,13 +32,21 @@ pub record IsEntryOf (g : KoreSignature) (r : Registration) (e : Entry) : Type 0
   pub also : option_map string_bytes e.also ≡ r.also
   pub rules : IsSetOf g r.axioms e.rules.value
 
--- the pass has seen this book
-abbrev pub HasSeen : KoreSignature → List Registration → Pass → Type 0
-HasSeen g book p = AllZip (IsEntryOf g) book p.entries.items
+-- the entries are the registrations of this book, one by one
+abbrev pub HasSeen : KoreSignature → List Registration → List Entry → Type 0
+HasSeen g book es = AllZip (IsEntryOf g) book es
 
--- this holds at each opening whose table this is and each book that the pass has seen over it
-abbrev pub AtEachSeenBy : ModuleTable → Pass → (Opening → List Registration → Type 0) → Type 0
-AtEachSeenBy t p Holds = (o : Opening) (book : List Registration) → IsTableOf o t → HasSeen o.signature book p → Holds o book
+-- this holds at each opening whose table this is and each book of these entries over it
+abbrev pub AtEachSeenBy : ModuleTable → List Entry → (Opening → List Registration → Type 0) → Type 0
+AtEachSeenBy t es Holds = (o : Opening) (book : List Registration) → IsTableOf o t → HasSeen o.signature book es → Holds o book
+
+-- over each opening whose table this is, the entries are those of a legal book
+abbrev pub HasLegalBook : ModuleTable → List Entry → Type 0
+HasLegalBook t es = (o : Opening) → IsTableOf o t → (book : List Registration) × HasSeen o.signature book es × IsLegal o book
+
+-- at each legal book of these entries, over each opening whose table this is, the entry is a registration that extends it
+abbrev pub Extends : ModuleTable → List Entry → Entry → Type 0
+Extends t es e = (o : Opening) (book : List Registration) → IsTableOf o t → HasSeen o.signature book es → IsLegal o book → (r : Registration) × IsEntryOf o.signature r e × IsExtension o book r
 
 -- what a name means at this book is a rule set made of its axioms; it means nothing where there is none
 abbrev pub MeansAt : Opening → List Registration → Text → Option RuleSet → Type 0
@@ -93,13 +102,13 @@ IsRising (x ∷ xs) = AllByRecursion (λ y. compare x y ≡ Less) xs × IsRising
 
 -- there is room for all entries that a book may have and for their names, and the table tells of each name the first
 -- entry that binds it
-pub record IsPass (p : Pass) : Type 0 where
-  pub few : length p.entries.items ≤ most_entries
-  pub room : most_entries ≤ vec_capacity p.entries
-  pub names_few : length p.names.items ≤ 2 * length p.entries.items
-  pub names_room : 2 * most_entries ≤ vec_capacity p.names
-  pub rising : IsRising (map name_of p.names.items)
-  pub told : (name : Text) → place_named p.names.items name ≡ first_binding p.entries.items name
+pub record IsSound (b : Book) : Type 0 where
+  pub few : length b.entries.items ≤ most_entries
+  pub room : most_entries ≤ vec_capacity b.entries
+  pub names_few : length b.names.items ≤ 2 * length b.entries.items
+  pub names_room : 2 * most_entries ≤ vec_capacity b.names
+  pub rising : IsRising (map name_of b.names.items)
+  pub told : (name : Text) → place_named b.names.items name ≡ first_binding b.entries.items name
 
 -- it holds the names that its entry binds
 pub record IsReady (r : Ready) : Type 0 where

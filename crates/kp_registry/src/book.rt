@@ -1,20 +1,23 @@
 // The book of modules over a table: what a name means, and the modules that are entered.
-ghost use Rattle.std.specs.Prelude.{◌≡◌, ◌<◌, ◌≤◌, ◌++◌, ◌∷◌, [], List, length, IfOk, IfErr, OnOk, None, true, string_bytes, option_map};
+ghost use Rattle.std.specs.Prelude.{◌≡◌, ◌≤◌, ◌+◌, ◌++◌, ◌∷◌, [], List, IfOk, IfErr, OnErr, OnOk, string_bytes, option_map};
+ghost use mathlib.Core.List.{IsPrefix};
 ghost use Rattle.std.specs.Str.{IsUtf8};
-ghost use Rattle.kp_book.specs.Books.{Opening, Registration, most_entries};
-ghost use Rattle.kp_modules.specs.Openings.{IsTableOf};
-ghost use Rattle.kp_registry.specs.Legal.{IsExtension, IsLegal, id_of as stated_id};
-ghost use Rattle.kp_registry.specs.Passes.{AtEachSeenBy, HasSeen, IsEntryOf, IsPass, IsReady, MeansAt, own_name_asked};
-ghost use Rattle.kp_registry.specs.Refusals.{IsRefused, IsWelcome, TellsAlsoDuplicate, TellsDuplicate, TellsFault, own_name_of};
+ghost use Rattle.kp_history.specs.Passes.{Keeps, positions, seen};
+ghost use Rattle.kp_history.specs.Views.{longer};
+ghost use Rattle.kp_registry.specs.Legal.{id_of as stated_id};
+ghost use Rattle.kp_registry.specs.Passes.{AtEachSeenBy, Extends, IsReady, MeansAt, own_name_asked};
+ghost use Rattle.kp_registry.specs.Refusals.{IsRefused, own_name_of};
+ghost use Rattle.kp_registry.specs.Registries.{HasGained, IsPassOf, seats_of, table_of};
 
-use crate::entries::MOST_ENTRIES;
+use crate::faults::fault;
 use crate::id::{Id, id_of};
-use crate::seen::{Entry, Pass, Ready};
+use crate::seen::{Book, Entry, Pass, Ready};
+use kp_history::{Full, History};
 use kp_kore::{Module, Name};
 use kp_modules::{ModuleTable, rules_of};
 use kp_rule_sets::RuleSet;
 use std::alloc::{AllocError, Global};
-use std::sync::Arc;
+use std::sync::{Arc, Wait};
 
 /// Why a module isn't registered.
 #[derive(Clone, Copy, PartialEq, Eq, Debug)]
@@ -25,71 +28,113 @@ pub enum RegisterFault {
     Many,
 }
 
-/// The book of a table.
-#[derive(Drop)]
+/// The book of a table, which many passes share.
 pub struct Registry {
-    table: ModuleTable,
+    pub(crate) history: History<Book, Entry, ModuleTable>,
+}
+
+// Written out: a derived one is proved again in each crate that owns a registry.
+impl Drop for Registry {
+    fn drop(self) {
+        let Registry { history: _history } = self;
+    }
 }
 
 impl Registry {
-    /// A book without entries, with a pass on it. There is room for all entries that a book may have.
+    /// A book without entries, with a pass on it that has all places. There is room for all entries that a book may have.
     pub fn begin(
         alloc: Global,
         table: ModuleTable,
         seats: usize,
     ) -> Result<(Registry, Pass), AllocError>
         requires seats { (1 ≤ seats) × (seats ≤ 64) }
-        ensures pass { IfOk result (λ out. IsPass out.1) }
-        ensures none { IfOk result (λ out. out.1.entries.items ≡ []) }
-        ensures table { IfOk result (λ out. out.0.table ≡ table) }
+        ensures pass { IfOk result (λ out. IsPassOf out.0 out.1) }
+        ensures none { IfOk result (λ out. (seen out.1 ≡ []) × (positions out.1 ≡ []) × (out.1.spare + 1 ≡ seats)) }
+        ensures about { IfOk result (λ out. (table_of out.0 ≡ table) × (seats_of out.0 ≡ seats)) }
     {
-        let _seats = seats;
-        let pass = Pass::empty(alloc)?;
-        Ok((Registry { table }, pass))
+        let book = Book::empty(alloc)?;
+        let (history, pass) = History::begin(alloc, seats as u64, table, book)?;
+        Ok((Registry { history }, pass))
     }
 
     /// The table.
     pub fn table(&self) -> &ModuleTable
-        ensures { result.now ≡ self.now.table }
+        ensures { result.now ≡ table_of self.now }
     {
-        &self.table
+        self.history.about()
+    }
+
+    /// A pass more, where there is a spare place: it has seen as much, and has entered nothing.
+    pub fn split(&self, pass: &mut Pass) -> Result<Pass, Full>
+        requires pass { IsPassOf self.now pass.old }
+        ensures pass { IsPassOf self.now pass.new × (seen pass.new ≡ seen pass.old) × (positions pass.new ≡ positions pass.old) }
+        ensures new { IfOk result (λ new. IsPassOf self.now new × (seen new ≡ seen pass.old) × (positions new ≡ []) × (new.spare ≡ 0)) }
+        ensures spare { IfOk result (λ new. pass.new.spare + 1 ≡ pass.old.spare) }
+        ensures full { OnErr result ((pass.old.spare ≡ 0) × (pass.new ≡ pass.old)) }
+    {
+        self.history.split(pass)
+    }
+
+    /// One pass takes in another: it has seen what both had, and has the positions and the places of both.
+    pub fn join(&self, pass: &mut Pass, other: Pass)
+        requires pass { IsPassOf self.now pass.old }
+        requires other { IsPassOf self.now other }
+        ensures pass { IsPassOf self.now pass.new }
+        ensures seen { IsPrefix (seen pass.old) (seen pass.new) × IsPrefix (seen other) (seen pass.new) }
+        ensures longer { seen pass.new ≡ longer (seen pass.old) (seen other) }
+        ensures own { (positions pass.new ≡ positions pass.old ++ positions other) × (pass.new.spare ≡ pass.old.spare + other.spare + 1) }
+    {
+        self.history.join(pass, other);
     }
 
     /// The rule set that a name means: that of the definition's module, in the order of the module's own walk, or that
-    /// of the first entry that binds it. Memory is taken for a module of the definition other than main alone.
-    pub fn look(
+    /// of the first entry that binds it. A name of the definition is looked up without the turn, and memory is taken for
+    /// a module of the definition other than main alone.
+    pub fn look<R: Wait>(
         &self,
+        rt: &R,
         alloc: Global,
         pass: &mut Pass,
         name: &str,
     ) -> Result<Option<Arc<RuleSet>>, AllocError>
-        requires pass { IsPass pass.old }
-        ensures pass { pass.new ≡ pass.old }
-        ensures found { AtEachSeenBy self.now.table pass.old (λ o book. IfOk result (λ found. MeansAt o book name.now (option_map (λ r. r.value) found))) }
+        requires pass { IsPassOf self.now pass.old }
+        ensures pass { IsPassOf self.now pass.new }
+        ensures seen { IsPrefix (seen pass.old) (seen pass.new) }
+        ensures own { Keeps pass.old pass.new }
+        ensures found { AtEachSeenBy (table_of self.now) (seen pass.new) (λ o book. IfOk result (λ found. MeansAt o book name.now (option_map (λ r. r.value) found))) }
     {
-        if self.table.reaches(name) {
-            return rules_of(alloc, &self.table, name);
+        let table = self.table();
+        if table.reaches(name) {
+            return rules_of(alloc, table, name);
         }
-        match pass.place(name) {
-            Some(place) => Ok(Some(pass.rules_at(place)?)),
-            None => Ok(None),
-        }
+        let book = self.history.take(rt, pass);
+        let found = book.rules(name);
+        self.history.put_back(pass, book);
+        found
     }
 
-    /// Enters a module at the end of the book, without memory; a refusal hands it back and leaves the pass.
-    pub fn register(&self, pass: &mut Pass, ready: Ready) -> Result<Id, (RegisterFault, Ready)>
-        requires pass { IsPass pass.old }
+    /// Enters a module at the end of the book, without memory; a refusal hands it back.
+    pub fn register<R: Wait>(
+        &self,
+        rt: &R,
+        pass: &mut Pass,
+        ready: Ready,
+    ) -> Result<Id, (RegisterFault, Ready)>
+        requires pass { IsPassOf self.now pass.old }
         requires ready { IsReady ready }
-        ensures pass { IsPass pass.new }
-        ensures entered { IfOk result (λ id. (id ≡ ready.entry.id) × (pass.new.entries.items ≡ pass.old.entries.items ++ ready.entry ∷ [])) }
-        ensures back { IfErr result (λ back. (back.1 ≡ ready) × (pass.new ≡ pass.old)) }
-        ensures welcome { (o : Opening) (book : List Registration) → IsTableOf o self.now.table → HasSeen o.signature book pass.old → OnOk result (IsWelcome o book ready.entry) }
-        ensures refused { AtEachSeenBy self.now.table pass.old (λ o book. IfErr result (λ back. IsRefused o book ready.entry back.0)) }
-        ensures seen { (o : Opening) (book : List Registration) (r : Registration) → let g = o.signature in HasSeen g book pass.old → IsEntryOf g r ready.entry → OnOk result (HasSeen g (book ++ r ∷ []) pass.new) }
-        ensures legal { (o : Opening) (book : List Registration) (r : Registration) → let g = o.signature in IsTableOf o self.now.table → HasSeen g book pass.old → IsEntryOf g r ready.entry → IsExtension o book r → IsLegal o book → OnOk result (IsLegal o (book ++ r ∷ [])) }
+        requires extends { Extends (table_of self.now) (seen pass.old) ready.entry }
+        ensures pass { IsPassOf self.now pass.new }
+        ensures entered { IfOk result (λ id. (id ≡ ready.entry.id) × (others : List Entry) × IsPrefix (seen pass.old) others × (seen pass.new ≡ others ++ ready.entry ∷ [])) }
+        ensures own { OnOk result (HasGained pass.old pass.new) }
+        ensures back { IfErr result (λ back. (back.1 ≡ ready) × IsPrefix (seen pass.old) (seen pass.new) × Keeps pass.old pass.new) }
+        ensures refused { AtEachSeenBy (table_of self.now) (seen pass.new) (λ o book. IfErr result (λ back. IsRefused o book ready.entry back.0)) }
     {
-        match self.fault(pass, &ready) {
-            Some(fault) => Err((fault, ready)),
+        let mut book = self.history.take(rt, pass);
+        match fault(self.table(), &book, &ready) {
+            Some(fault) => {
+                self.history.put_back(pass, book);
+                Err((fault, ready))
+            }
             None => {
                 let Ready {
                     entry,
@@ -97,63 +142,10 @@ impl Registry {
                     own_name,
                 } = ready;
                 let id = entry.id;
-                pass.enter(entry, id_name, own_name);
+                book.enter(entry, id_name, own_name);
+                self.history.put_longer(pass, book);
                 Ok(id)
             }
-        }
-    }
-
-    /// Why a module can't be entered: its id before its own name, and then the number of entries.
-    fn fault(&self, pass: &Pass, ready: &Ready) -> Option<RegisterFault>
-        requires pass { IsPass pass.now }
-        requires ready { IsReady ready.now }
-        ensures fault { (o : Opening) (book : List Registration) → IsTableOf o self.now.table → HasSeen o.signature book pass.now → TellsFault o book ready.now.entry result }
-        ensures few { result ≡ None → length pass.now.entries.items < most_entries }
-    {
-        if let Some(entry) = self.duplicate(pass, &ready.entry.text, ready.id_name.as_str()) {
-            return Some(RegisterFault::Duplicate { entry, of_id: true });
-        }
-        if let Some(entry) = self.own_duplicate(pass, ready) {
-            return Some(RegisterFault::Duplicate {
-                entry,
-                of_id: false,
-            });
-        }
-        if MOST_ENTRIES <= pass.entries.len() {
-            return Some(RegisterFault::Many);
-        }
-        None
-    }
-
-    /// The entry that binds the own name to another text, where that name is to be bound.
-    fn own_duplicate(&self, pass: &Pass, ready: &Ready) -> Option<usize>
-        requires pass { IsPass pass.now }
-        requires ready { IsReady ready.now }
-        ensures { AtEachSeenBy self.now.table pass.now (λ o book. TellsAlsoDuplicate o book ready.now.entry.text.items (own_name_of ready.now.entry) result) }
-    {
-        match &ready.own_name {
-            Some(name) => self.duplicate(pass, &ready.entry.text, name.as_str()),
-            None => None,
-        }
-    }
-
-    /// The entry that binds the name to another text, counted from 1; 0 where the definition binds it.
-    fn duplicate(&self, pass: &Pass, text: &[u8], name: &str) -> Option<usize>
-        requires pass { IsPass pass.now }
-        ensures { (o : Opening) (book : List Registration) → IsTableOf o self.now.table → HasSeen o.signature book pass.now → TellsDuplicate o book text.now name.now result }
-    {
-        if self.table.reaches(name) {
-            return Some(0);
-        }
-        match pass.place(name) {
-            Some(place) => {
-                if pass.has_text(place, text) {
-                    None
-                } else {
-                    Some(place + 1)
-                }
-            }
-            None => None,
         }
     }
 }

@@ -1,11 +1,11 @@
-// The names and the entries of a pass.
+// The names and the entries of a book.
 ghost use Rattle.std.specs.Prelude.{◌≡◌, ◌<◌, ◌≤◌, IfOk, IfErr, suc, length, map, take, drop, get_or, Some, string_bytes};
 ghost use Rattle.std.specs.Vec.{vec_capacity};
 ghost use Rattle.kp_kore.specs.Syntax.{Text};
 ghost use Rattle.kp_registry.specs.Passes.{AreAbove, AreBelow, IsRising, name_of, place_named, told_then};
 ghost use Rattle.kp_registry.specs.declared.seen.NameBinding.{NameBinding};
 
-use crate::seen::{Entry, NameBinding, Pass};
+use crate::seen::{Book, Entry, NameBinding};
 use kp_kore::Name;
 use kp_rule_sets::RuleSet;
 use std::alloc::{AllocError, Global};
@@ -18,18 +18,19 @@ pub const MOST_ENTRIES: usize = 4096;
 /// The most names of a book: an id and an own name of each entry.
 const MOST_NAMES: usize = 8192;
 
-impl Pass {
-    ghost use Rattle.std.specs.Prelude.{◌≡◌, ◌<◌, ◌++◌, ◌∷◌, [], IfOk, length, option_map, string_bytes, get_or};
+impl Book {
+    ghost use Rattle.std.specs.Prelude.{◌≡◌, ◌<◌, ◌++◌, ◌∷◌, [], List, None, IfOk, length, option_map, string_bytes, get_or};
+    ghost use Rattle.kp_book.specs.Books.{Opening, Registration, rules_in};
     ghost use Rattle.std.specs.Str.{bytes_eq};
-    ghost use Rattle.kp_registry.specs.Passes.{IsPass, first_binding};
+    ghost use Rattle.kp_registry.specs.Passes.{HasSeen, IsSound, MeansAt, first_binding};
     ghost use Rattle.kp_registry.specs.declared.seen.Entry.{Entry};
 
-    /// Nothing was seen, and there is room for all that a book may have.
-    pub fn empty(alloc: Global) -> Result<Pass, AllocError>
-        ensures pass { IfOk result IsPass }
-        ensures none { IfOk result (λ p. p.entries.items ≡ []) }
+    /// No entries, and room for all that a book may have.
+    pub fn empty(alloc: Global) -> Result<Book, AllocError>
+        ensures sound { IfOk result IsSound }
+        ensures none { IfOk result (λ book. book.entries.items ≡ []) }
     {
-        Ok(Pass {
+        Ok(Book {
             entries: Vec::with_capacity(alloc, MOST_ENTRIES)?,
             names: Vec::with_capacity(alloc, MOST_NAMES)?,
         })
@@ -37,7 +38,7 @@ impl Pass {
 
     /// The place of the first entry that binds the name.
     pub fn place(&self, name: &str) -> Option<usize>
-        requires pass { IsPass self.now }
+        requires sound { IsSound self.now }
         ensures { result ≡ first_binding self.now.entries.items name.now }
     {
         match search(&self.names, name) {
@@ -54,6 +55,17 @@ impl Pass {
         self.entries[place].rules.clone()
     }
 
+    /// The rule set of the first entry that binds the name.
+    pub fn rules(&self, name: &str) -> Result<Option<Arc<RuleSet>>, AllocError>
+        requires sound { IsSound self.now }
+        ensures { let es = self.now.entries.items in (o : Opening) (book : List Registration) → rules_in o.modules name.now ≡ None → HasSeen o.signature book es → IfOk result (λ found. MeansAt o book name.now (option_map (λ r. r.value) found)) }
+    {
+        match self.place(name) {
+            Some(place) => Ok(Some(self.rules_at(place)?)),
+            None => Ok(None),
+        }
+    }
+
     /// Whether the entry at this place has this text.
     pub fn has_text(&self, place: usize, text: &[u8]) -> bool
         requires within { place < length self.now.entries.items }
@@ -64,11 +76,11 @@ impl Pass {
 
     /// Enters a module behind those that are there.
     pub fn enter(&mut self, entry: Entry, id_name: Name, own_name: Option<Name>)
-        requires pass { IsPass self.old }
+        requires sound { IsSound self.old }
         requires room { length self.old.entries.items < 4096 }
         requires id { string_bytes id_name ≡ entry.id }
         requires own { option_map string_bytes own_name ≡ option_map string_bytes entry.also }
-        ensures pass { IsPass self.new }
+        ensures sound { IsSound self.new }
         ensures entered { self.new.entries.items ≡ self.old.entries.items ++ entry ∷ [] }
     {
         let place = self.entries.len();

@@ -7,7 +7,10 @@ ghost use Rattle.kp_kore.specs.Theory.{NumberedAxiom, imports_in};
 ghost use Rattle.kp_book.specs.Books.{Opening, Registration, binds, extended, meaning_in, most_entries};
 ghost use Rattle.kp_modules.specs.Made.{IsSetOf};
 ghost use Rattle.kp_registry.specs.Legal.{Fits, IsExtension, IsLegal, id_of as stated_id};
-ghost use Rattle.kp_registry.specs.Passes.{IsEntryOf, own_name_asked};
+ghost use mathlib.Core.List.{IsPrefix};
+ghost use Rattle.kp_modules.specs.Openings.{IsTableOf};
+ghost use Rattle.kp_modules.specs.declared.table.ModuleTable.{ModuleTable};
+ghost use Rattle.kp_registry.specs.Passes.{HasLegalBook, HasSeen, IsEntryOf, own_name_asked};
 ghost use Rattle.kp_registry.specs.Refusals.{own_name_of};
 ghost use Rattle.kp_registry.specs.declared.seen.Entry.{Entry};
 
@@ -27,4 +30,15 @@ pub fn an_extended_entry_extends_the_book()
 /// An id means what the first entry that binds it holds, however often its text is entered again.
 pub fn an_id_means_its_first_entry()
     ensures { (o : Opening) (before after : List Registration) (r : Registration) → let the_before = before ++ r ∷ after in IsLegal o the_before → AllByRecursion (λ q. binds r.id q ≡ false) before → meaning_in o the_before r.id ≡ Some r.axioms }
+{}
+
+/// A legal book is known by its entries: two legal books of the same entries are one.
+pub fn a_legal_book_is_known_by_its_entries()
+    ensures { (o : Opening) (book other : List Registration) (es : List Entry) → IsLegal o book → IsLegal o other → HasSeen o.signature book es → HasSeen o.signature other es → book ≡ other }
+{}
+
+/// A legal book of what a pass had seen goes on to one of what it has seen.
+pub fn a_seen_book_goes_on()
+    ensures { (o : Opening) (t : ModuleTable) (xs ys : List Entry) (book : List Registration) → IsTableOf o t → HasLegalBook t ys → IsPrefix xs ys → HasSeen o.signature book xs → IsLegal o book →
+        (more : List Registration) × HasSeen o.signature (book ++ more) ys × IsLegal o (book ++ more) }
 {}

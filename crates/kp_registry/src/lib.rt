@@ -4,10 +4,11 @@
 
 pub mod book;
 mod entries;
+mod faults;
 mod id;
 pub mod laws;
 pub mod seen;
 
 pub use book::{RegisterFault, Registry, prepare};
 pub use id::{Id, id_of};
-pub use seen::{Entry, Pass, Ready};
+pub use seen::{Book, Entry, Pass, Ready};
