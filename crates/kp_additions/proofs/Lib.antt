@@ -1,3 +1,4 @@
 pub mod Again
+pub mod Later
 pub mod Meanings
 pub mod Telling

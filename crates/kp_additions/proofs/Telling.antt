@@ -13,13 +13,13 @@ use Rattle.kp_kore.specs.Theory.{NumberedAxiom, imports_in}
 use Rattle.kp_book.specs.Books.{Opening, Registration, IsDuplicate, extended}
 use Rattle.kp_modules.specs.Extending.{AreSetsOf, ExtendFault, IsAddable, IsExtendFault, declaration, rule_fault}
 use Rattle.kp_modules.specs.Made.{IsSetOf}
-use Rattle.kp_registry.specs.Legal.{AreLegalFrom, Fits, IsExtension, IsLegal, id_of}
+use Rattle.kp_registry.specs.Legal.{AreLegalFrom, Fits, IsExtension, id_of}
 use Rattle.kp_registry.specs.Passes.{IsEntryOf, own_name_asked}
-use Rattle.kp_registry.specs.Refusals.{IsAlsoDuplicate, IsAlsoFree, IsFree, IsRefused, IsWelcome, own_name_of}
+use Rattle.kp_registry.specs.Refusals.{IsAlsoDuplicate, IsAlsoFree, IsFree, IsRefused, own_name_of}
 use Rattle.kp_registry.specs.declared.book.RegisterFault.TheVariants.{Duplicate, Many}
 use Rattle.kp_registry.specs.declared.seen.Entry.{Entry}
 use Rattle.kp_replies.specs.Failures.{Failure, bad_module, bad_text, unknown_import, full_book, duplicate}
-use Rattle.kp_additions.specs.Added.{IsAdded, IsFirstUnbound, IsRefusedFor, IsSound, no_import, no_module, no_rule, declares, no_room, other_id, other_name}
+use Rattle.kp_additions.specs.Added.{IsFirstUnbound, IsRefusedFor, IsSound, no_import, no_module, no_rule, declares, no_room, other_id, other_name}
 use Rattle.kp_additions.specs.Told.{AreMeant, IsReadied, sentence_fault}
 use Rattle.kp_additions.proofs.Meanings.{listed, all_bound}
 
@@ -118,16 +118,6 @@ extends o book text flag e p = record {
   axioms = refl;
 }
 
-last_fits : (o : Opening) (before xs : List Registration) (r : Registration) → AreLegalFrom o before (xs ++ r ∷ []) → Fits o (before ++ xs) r
+pub last_fits : (o : Opening) (before xs : List Registration) (r : Registration) → AreLegalFrom o before (xs ++ r ∷ []) → Fits o (before ++ xs) r
 last_fits o before [] r h = subst (λ b. Fits o b r) (sym (append-nil before)) h.0
 last_fits o before (x ∷ xs) r h = subst (λ b. Fits o b r) (append_assoc before (x ∷ []) xs) (last_fits o (before ++ x ∷ []) xs r h.1)
-
-pub added : (o : Opening) (book : List Registration) (text : List ℕ) (flag : Bool) (e : Entry) (p : IsReadied o book text flag e) → IsWelcome o book e → IsLegal o (book ++ registered o book text flag e p ∷ []) → IsAdded o book text flag (registered o book text flag e p)
-added o book text flag e p welcome legal = record {
-  spelled = p.spelled;
-  sound = p.sound;
-  fits = last_fits o [] book (registered o book text flag e p) legal.entries;
-  text_is = refl;
-  also_is = refl;
-  room = welcome.room;
-}

@@ -12,7 +12,7 @@ use Rattle.kp_kore.specs.Theory.{NumberedAxiom, imports_in}
 use Rattle.kp_rule_sets.specs.declared.rule_set.RuleSet.{RuleSet}
 use Rattle.kp_replies.specs.Failures.{AdditionFault, bad_text, bad_axiom, bad_sentence, unknown_import, Failure, bad_module, duplicate}
 use Rattle.kp_replies.specs.View.{addition_view}
-use Rattle.kp_book.specs.Books.{Opening, Registration, meaning_in, extended}
+use Rattle.kp_book.specs.Books.{Opening, Registration, Seen, Grows, with_own, meaning_in, extended}
 use Rattle.kp_modules.specs.Extending.{ExtendFault, IsExtendFault, rule_fault, declaration}
 use Rattle.kp_modules.specs.Made.{IsSetOf}
 use Rattle.kp_registry.specs.Legal.{id_of}
@@ -20,9 +20,8 @@ use Rattle.kp_registry.specs.Passes.{MeansAt, own_name_asked}
 use Rattle.kp_registry.specs.Refusals.{own_name_of}
 use Rattle.kp_registry.specs.declared.book.Registry.{Registry}
 use Rattle.kp_registry.specs.declared.seen.Entry.{Entry}
-use Rattle.kp_registry.specs.declared.seen.Pass.{Pass}
 use Rattle.kp_additions.specs.Added.{IsAdded, IsFirstUnbound, IsRefusedFor, IsSound}
-use Rattle.kp_additions.specs.Served.{HasSeenAt}
+use Rattle.kp_additions.specs.Served.{HasSeenAt, Pass}
 use Rattle.kp_additions.specs.declared.error.AdditionError.{AdditionError}
 use Rattle.kp_additions.specs.declared.error.AdditionError.TheVariants as error
 
@@ -59,12 +58,15 @@ sentence_fault (declaration n) = bad_sentence n
 abbrev pub TellsUnsound : KoreSignature → Text → KoreModule → AdditionError → Type 0
 TellsUnsound g id m e = (f : Failure) → failure_told e ≡ Some f → (x : ExtendFault) × (f ≡ bad_module (sentence_fault x)) × IsExtendFault g id m x
 
--- the text is added behind the book under this id, and the pass has seen it there
-pub record IsEntered (o : Opening) (book : List Registration) (text : List ℕ) (name_as_id : Bool) (id : Text) (registry : Registry) (pass : Pass) : Type 0 where
+-- the text is added under this id behind a book that begins with the one that was seen, and the pass has seen it there,
+-- as an entry of its own
+pub record IsEntered (o : Opening) (before : Seen) (text : List ℕ) (name_as_id : Bool) (id : Text) (registry : Registry) (pass : Pass) : Type 0 where
+  pub between : List Registration
+  pub grows : Grows before.book between
   pub registration : Registration
-  pub is_added : IsAdded o book text name_as_id registration
+  pub is_added : IsAdded o between text name_as_id registration
   pub is_id : registration.id ≡ id
-  pub seen : HasSeenAt registry pass o (book ++ registration ∷ [])
+  pub seen : HasSeenAt registry pass o (with_own between registration before.own)
 
 -- ---- what is ready
 

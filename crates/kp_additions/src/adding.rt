@@ -7,15 +7,16 @@ ghost use Rattle.kp_kore.specs.View.{module_view};
 ghost use Rattle.kp_kore.specs.Theory.{NumberedAxiom};
 ghost use Rattle.kp_signature.specs.View.{signature_view};
 ghost use Rattle.kp_text.specs.Spelling.{SpellsModule};
-ghost use Rattle.kp_book.specs.Books.{Opening, Registration, extended as extended_by};
+ghost use Rattle.kp_book.specs.Books.{Opening, Registration, Seen, extended as extended_by};
 ghost use Rattle.kp_modules.specs.Extending.{AreSetsOf, ExtendFault, IsAddable, extend_fault};
 ghost use Rattle.kp_modules.specs.Made.{IsSetOf};
 ghost use Rattle.kp_modules.specs.Tables.{rule_set_of};
 ghost use Rattle.kp_registry.specs.Legal.{id_of as stated_id};
-ghost use Rattle.kp_registry.specs.Passes.{IsPass, IsReady};
+ghost use Rattle.kp_registry.specs.Passes.{IsReady};
+ghost use Rattle.kp_registry.specs.Registries.{IsPassOf};
 ghost use Rattle.kp_registry.specs.Refusals.{IsRefused};
 ghost use Rattle.kp_replies.specs.Failures.{Failure, bad_module};
-ghost use Rattle.kp_additions.specs.Served.{AtEachBookSeen};
+ghost use Rattle.kp_additions.specs.Served.{AtEachBookSeen, HasLooked, HasSeenAt};
 ghost use Rattle.kp_additions.specs.Told.{IsEntered, IsReadied, TellsRefusal, TellsText, TellsUnsound, failure_told, sentence_fault};
 
 use crate::error::AdditionError;
@@ -27,28 +28,29 @@ use kp_replies::AdditionFault;
 use kp_rule_sets::RuleSet;
 use kp_text::{ReadError, read_module};
 use std::alloc::Global;
-use std::sync::Arc;
+use std::sync::{Arc, Wait};
 
 /// Adds the module that the text spells at the end of the book, and gives its id; its own name is bound too where that is
-/// asked for. Refused in this order: the text's fault, M1, M6, M7, a name that is bound to another text, M9. A refusal, or
-/// want of memory, leaves the pass.
+/// asked for. Refused in this order: the text's fault, M1, M6, M7, a name that is bound to another text, M9. Behind a refusal, or
+/// want of memory, the pass has entered nothing.
 /// Source: the K Haskell backend's JSON-RPC documentation (add-module, name-as-id).
-pub fn add_module(
+pub fn add_module<R: Wait>(
+    rt: &R,
     alloc: Global,
     registry: &Registry,
     pass: &mut Pass,
     text: Vec<u8>,
     name_as_id: bool,
 ) -> Result<Id, AdditionError>
-    requires pass { IsPass pass.old }
-    ensures pass { IsPass pass.new }
-    ensures left { OnErr result (pass.new ≡ pass.old) }
+    requires pass { IsPassOf registry.now pass.old }
+    ensures pass { IsPassOf registry.now pass.new }
+    ensures left { OnErr result (HasLooked pass.old pass.new) }
     ensures id { IfOk result (λ id. id ≡ stated_id text.items) }
-    ensures added { IfOk result (λ id. AtEachBookSeen registry.now pass.old (λ o book. IsEntered o book text.items name_as_id id registry.now pass.new)) }
-    ensures refused { IfErr result (λ e. AtEachBookSeen registry.now pass.old (λ o book. TellsRefusal o book text.items name_as_id e)) }
+    ensures added { IfOk result (λ id. (o : Opening) (before : Seen) → HasSeenAt registry.now pass.old o before → IsEntered o before text.items name_as_id id registry.now pass.new) }
+    ensures refused { IfErr result (λ e. AtEachBookSeen registry.now pass.new (λ o book. TellsRefusal o book text.items name_as_id e)) }
 {
-    let ready = ready_of(alloc, registry, pass, text, name_as_id)?;
-    match registry.register(pass, ready) {
+    let ready = ready_of(rt, alloc, registry, pass, text, name_as_id)?;
+    match registry.register(rt, pass, ready) {
         Ok(id) => Ok(id),
         Err((fault, back)) => Err(fault_told(fault, back)),
     }
@@ -88,22 +90,24 @@ fn name_of(ready: Ready, of_id: bool) -> Name
 }
 
 /// The entry for the module that the text spells.
-fn ready_of(
+fn ready_of<R: Wait>(
+    rt: &R,
     alloc: Global,
     registry: &Registry,
     pass: &mut Pass,
     text: Vec<u8>,
     name_as_id: bool,
 ) -> Result<Ready, AdditionError>
-    requires pass { IsPass pass.old }
-    ensures pass { pass.new ≡ pass.old }
+    requires pass { IsPassOf registry.now pass.old }
+    ensures pass { IsPassOf registry.now pass.new }
+    ensures looked { HasLooked pass.old pass.new }
     ensures ready { IfOk result IsReady }
     ensures id { IfOk result (λ ready. ready.entry.id ≡ stated_id text.items) }
-    ensures entry { IfOk result (λ ready. AtEachBookSeen registry.now pass.old (λ o book. IsReadied o book text.items name_as_id ready.entry)) }
-    ensures err { IfErr result (λ e. AtEachBookSeen registry.now pass.old (λ o book. TellsRefusal o book text.items name_as_id e)) }
+    ensures entry { IfOk result (λ ready. AtEachBookSeen registry.now pass.new (λ o book. IsReadied o book text.items name_as_id ready.entry)) }
+    ensures err { IfErr result (λ e. AtEachBookSeen registry.now pass.new (λ o book. TellsRefusal o book text.items name_as_id e)) }
 {
     let module = module_of(alloc, &text)?;
-    let imports = imports_of(alloc, registry, pass, &module.sentences)?;
+    let imports = imports_of(rt, alloc, registry, pass, &module.sentences)?;
     let rules = rules_of(alloc, registry.table(), &imports, &id_of(&text), &module)?;
     Ok(prepare(alloc, text, &module, rules, name_as_id)?)
 }

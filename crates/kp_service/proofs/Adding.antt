@@ -8,68 +8,64 @@ use Rattle.kp_rpc.specs.Reply.{reply_bytes, result_reply}
 use Rattle.kp_replies.specs.Failures.{Failure, bad_sides, undecided, bad_module, duplicate, failure_reply}
 use Rattle.kp_replies.specs.Written.{added_tree}
 use Rattle.kp_requests.specs.Requests.{asks, add_module}
-use Rattle.kp_book.specs.Books.{Opening, Registration}
+use Rattle.kp_book.specs.Books.{Opening, Seen, at_book, with_own}
+use Rattle.kp_book.proofs.BookLemmas.{own_grows}
 use Rattle.kp_registry.specs.declared.book.Registry.{Registry}
-use Rattle.kp_registry.specs.declared.seen.Pass.{Pass}
+use Rattle.kp_registry.specs.Registries.{IsPassOf}
 use Rattle.kp_additions.specs.Added.{IsRefusedFor}
-use Rattle.kp_additions.specs.Served.{HasSeenAt}
+use Rattle.kp_additions.specs.Served.{AtEachBookSeen, HasLooked, HasSeenAt, Pass}
 use Rattle.kp_additions.specs.Told.{IsEntered, TellsRefusal, failure_told}
 use Rattle.kp_additions.specs.declared.error.AdditionError.{AdditionError}
 use Rattle.kp_conn.specs.Conversations.{Sees}
-use Rattle.kp_service.specs.Batches.{FromEachBookSeen, IsAddFailure, IsReplyLine, line_told, line_added, IsEffect, adds_nothing, adds, MayHaveDone, did_add}
-use Rattle.kp_service.proofs.Serving.{stays}
+use Rattle.kp_service.specs.Batches.{FromEachBookSeen, IsAddFailure, IsReplyLine, line_told, line_added, IsEffect, adds_nothing, adds}
+use Rattle.kp_service.proofs.Serving.{looks}
 
 -- ---- what was entered
 
 abbrev pub EntersAll : Registry → Pass → Pass → List ℕ → Bool → List ℕ → Type 0
-EntersAll registry before after text flag id = (o : Opening) (book : List Registration) → HasSeenAt registry before o book → IsEntered o book text flag id registry after
+EntersAll registry before after text flag id = (o : Opening) (s : Seen) → HasSeenAt registry before o s → IsEntered o s text flag id registry after
 
 -- a text is its bytes
 pub enters_text : (registry : Registry) (before after : Pass) (bytes text : List ℕ) (flag : Bool) (id : List ℕ) → bytes ≡ text → EntersAll registry before after bytes flag id → EntersAll registry before after text flag id
 enters_text registry before after bytes text flag id is h = subst (λ t. EntersAll registry before after t flag id) is h
 
-sees_entered : (registry : Registry) (o : Opening) (book : List Registration) (text : List ℕ) (flag : Bool) (id : List ℕ) (after : Pass) (Holds : List Registration → Type 0) → (e : IsEntered o book text flag id registry after) →
-    Holds (book ++ e.registration ∷ []) → Sees (HasSeenAt registry after o) book Holds
-sees_entered registry o book text flag id after Holds e holds = record { after = book ++ e.registration ∷ []; seen = e.seen; grows = (e.registration ∷ [], refl); holds = holds }
+sees_entered : (registry : Registry) (o : Opening) (s : Seen) (text : List ℕ) (flag : Bool) (id : List ℕ) (after : Pass) (Holds : Seen → Type 0) → (e : IsEntered o s text flag id registry after) →
+    Holds (with_own e.between e.registration s.own) → Sees (HasSeenAt registry after o) s Holds
+sees_entered registry o s text flag id after Holds e holds = record { after = with_own e.between e.registration s.own; seen = e.seen; grows = own_grows e.between e.registration s e.grows; holds = holds }
 
 pub entered_line : (registry : Registry) (before after : Pass) (text : List ℕ) (flag : Bool) (mid : List ℕ) (id : RequestId) (line : List ℕ) → EntersAll registry before after text flag mid → line ≡ reply_bytes (result_reply id (added_tree mid)) →
-    FromEachBookSeen registry before after (λ o book. IsReplyLine o book id (asks (add_module text flag)) line)
-entered_line registry before after text flag mid id line all l o book seen =
-    let e : IsEntered o book text flag mid registry after = all o book seen in
-    sees_entered registry o book text flag mid after (IsReplyLine o book id (asks (add_module text flag)) line) e
-    (line_added e.registration e.is_added (l ∙ ap (λ m. reply_bytes (result_reply id (added_tree m))) (sym e.is_id)))
+    FromEachBookSeen registry before after (λ o seen. IsReplyLine o seen id (asks (add_module text flag)) line)
+entered_line registry before after text flag mid id line all l o s had =
+    let e : IsEntered o s text flag mid registry after = all o s had in
+    sees_entered registry o s text flag mid after (IsReplyLine o s id (asks (add_module text flag)) line) e
+    (line_added e.between e.registration e.grows e.is_added (l ∙ ap (λ m. reply_bytes (result_reply id (added_tree m))) (sym e.is_id)))
 
 pub entered_silently : (registry : Registry) (before after : Pass) (text : List ℕ) (flag : Bool) (mid : List ℕ) → EntersAll registry before after text flag mid →
-    FromEachBookSeen registry before after (λ o book. IsEffect o book (asks (add_module text flag)))
-entered_silently registry before after text flag mid all o book seen =
-    let e : IsEntered o book text flag mid registry after = all o book seen in
-    sees_entered registry o book text flag mid after (IsEffect o book (asks (add_module text flag))) e (adds e.registration e.is_added)
-
-pub entered_yet : (registry : Registry) (before after : Pass) (text : List ℕ) (flag : Bool) (mid : List ℕ) → EntersAll registry before after text flag mid →
-    FromEachBookSeen registry before after (λ o book. MayHaveDone o book (asks (add_module text flag)))
-entered_yet registry before after text flag mid all o book seen =
-    let e : IsEntered o book text flag mid registry after = all o book seen in
-    sees_entered registry o book text flag mid after (MayHaveDone o book (asks (add_module text flag))) e (did_add e.registration e.is_added)
+    FromEachBookSeen registry before after (λ o seen. IsEffect o seen (asks (add_module text flag)))
+entered_silently registry before after text flag mid all o s had =
+    let e : IsEntered o s text flag mid registry after = all o s had in
+    sees_entered registry o s text flag mid after (IsEffect o s (asks (add_module text flag))) e (adds e.between e.registration e.grows e.is_added)
 
 -- ---- refusals
 
 -- whatever the book is, the text isn't added for this cause
 abbrev pub RefusesAll : Registry → Pass → List ℕ → Bool → Failure → Type 0
-RefusesAll registry before text flag f = (o : Opening) (book : List Registration) → HasSeenAt registry before o book → IsRefusedFor o book text flag f
+RefusesAll registry pass text flag f = AtEachBookSeen registry pass (λ o book. IsRefusedFor o book text flag f)
 
-pub refused_all : (registry : Registry) (before : Pass) (bytes text : List ℕ) (flag : Bool) (e : AdditionError) (f : Failure) → bytes ≡ text → failure_told e ≡ Some f →
-    ((o : Opening) (book : List Registration) → HasSeenAt registry before o book → TellsRefusal o book bytes flag e) → RefusesAll registry before text flag f
-refused_all registry before bytes text flag e f same is h = subst (λ t. RefusesAll registry before t flag f) same (λ o book seen. h o book seen f is)
+pub refused_all : (registry : Registry) (pass : Pass) (bytes text : List ℕ) (flag : Bool) (e : AdditionError) (f : Failure) → bytes ≡ text → failure_told e ≡ Some f →
+    AtEachBookSeen registry pass (λ o book. TellsRefusal o book bytes flag e) → RefusesAll registry pass text flag f
+refused_all registry pass bytes text flag e f same is h = subst (λ t. RefusesAll registry pass t flag f) same (λ o s seen. h o s seen f is)
 
-pub refused_line_told : (registry : Registry) (before after : Pass) (text : List ℕ) (flag : Bool) (f : Failure) (id : RequestId) (line : List ℕ) → after ≡ before → RefusesAll registry before text flag f →
+pub refused_line_told : (registry : Registry) (before after : Pass) (text : List ℕ) (flag : Bool) (f : Failure) (id : RequestId) (line : List ℕ) → IsPassOf registry after → HasLooked before after → RefusesAll registry after text flag f →
     (reply : Data) × (failure_reply id f ≡ Some reply) × (line ≡ reply_bytes reply) →
-    FromEachBookSeen registry before after (λ o book. IsReplyLine o book id (asks (add_module text flag)) line)
-refused_line_told registry before after text flag f id line same all l =
-    stays registry before after (λ o book. IsReplyLine o book id (asks (add_module text flag)) line) same (λ o book seen. line_told l.0 (f, all o book seen, l.1) l.2)
+    FromEachBookSeen registry before after (λ o seen. IsReplyLine o seen id (asks (add_module text flag)) line)
+refused_line_told registry before after text flag f id line is looked all l =
+    looks registry before after (λ o seen. IsReplyLine o seen id (asks (add_module text flag)) line) is looked (λ o s at grows seen. line_told at l.0 grows (f, all o (at_book at s) seen, l.1) l.2)
 
-pub refused_silently : (registry : Registry) (before after : Pass) (text : List ℕ) (flag : Bool) (f : Failure) → after ≡ before → RefusesAll registry before text flag f →
-    FromEachBookSeen registry before after (λ o book. IsEffect o book (asks (add_module text flag)))
-refused_silently registry before after text flag f same all = stays registry before after (λ o book. IsEffect o book (asks (add_module text flag))) same (λ o book seen. adds_nothing (f, all o book seen))
+pub refused_silently : (registry : Registry) (before after : Pass) (text : List ℕ) (flag : Bool) (f : Failure) → IsPassOf registry after → HasLooked before after → RefusesAll registry after text flag f →
+    FromEachBookSeen registry before after (λ o seen. IsEffect o seen (asks (add_module text flag)))
+refused_silently registry before after text flag f is looked all =
+    looks registry before after (λ o seen. IsEffect o seen (asks (add_module text flag))) is looked (λ o s at grows seen. adds_nothing at grows (f, all o (at_book at s) seen))
 
 -- ---- the reply with a cause
 

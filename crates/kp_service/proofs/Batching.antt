@@ -6,14 +6,16 @@ use Rattle.kp_rpc.specs.Reply.{RequestError, error_reply}
 use Rattle.kp_rpc.specs.Request.{RequestId, id_null}
 use Rattle.kp_requests.specs.Frames.{Asks}
 use Rattle.kp_requests.specs.Requests.{Asked, Call, single, batch, refused_whole}
-use Rattle.kp_book.specs.Books.{Opening, Registration}
+use Rattle.kp_book.specs.Books.{Opening, Registration, Seen, Grows, at_book}
+use Rattle.kp_book.proofs.BookLemmas.{grows_none}
 use Rattle.kp_conn.proofs.Conversing.{sees_behind, sees_more}
-use Rattle.kp_service.specs.Answers.{IsMember, told, added, silent, added_silently, with_reply, AreMembers, none, next, items_of, batch_reply, IsFront, IsAnswer, refusal, alone, together}
+use Rattle.kp_service.specs.Answers.{IsMember, told, added, silent, added_silently, with_reply, AreMembers, none, next, items_of, batch_reply, IsFront, IsAnswer, refusal, alone, together, IsBegun, not_begun}
 use Rattle.kp_conn.specs.Conversations.{Sees}
 use Rattle.kp_registry.specs.declared.book.Registry.{Registry}
-use Rattle.kp_registry.specs.declared.seen.Pass.{Pass}
-use Rattle.kp_service.specs.Batches.{FromEachBookSeen, call_of, IsReplyLine, line_told, line_added, IsEffect, adds_nothing, adds, MayHaveDone, did_nothing, did_add, IsMemberText, texts_behind, batch_front, text_with, text_then, text_closed, IsNextTold, AreFirstTold, AreMembersText}
-use Rattle.kp_additions.specs.Served.{HasSeenAt}
+use Rattle.kp_registry.specs.Registries.{IsPassOf}
+use Rattle.kp_service.specs.Batches.{FromEachBookSeen, call_of, IsReplyLine, line_told, line_added, IsEffect, adds_nothing, adds, IsMemberText, texts_behind, batch_front, text_with, text_then, text_closed, IsNextTold, AreFirstTold, AreMembersText}
+use Rattle.kp_service.proofs.Serving.{looks}
+use Rattle.kp_additions.specs.Served.{HasLooked, HasSeenAt, Pass}
 
 -- ---- texts
 
@@ -58,7 +60,7 @@ pub none_left : {X : Type 0} (xs : List X) → length xs ≡ 0 → xs ≡ []
 none_left [] e = refl
 none_left (x ∷ xs) e = absurd (omega arith)
 
-pub members_more : (o : Opening) (before between after : List Registration) (calls : List Call) (replies : List Data) (call : Call) (reply : Option Data) →
+pub members_more : (o : Opening) (before between after : Seen) (calls : List Call) (replies : List Data) (call : Call) (reply : Option Data) →
     AreMembers o before calls replies between → IsMember o between call reply after → AreMembers o before (calls ++ call ∷ []) (replies ++ with_reply reply []) after
 members_more o before between after calls replies call reply (none seen) m = next before after after call reply [] [] m (none after)
 members_more o before between after calls replies call reply (next b mid a c d cs ds now later) m = subst (λ x. AreMembers o before (c ∷ (cs ++ call ∷ [])) x after) (with_assoc d ds (with_reply reply []))
@@ -68,7 +70,7 @@ members_more o before between after calls replies call reply (next b mid a c d c
     with_assoc None ds es = refl
     with_assoc (Some x) ds es = refl
 
-members_on : (o : Opening) (before between after : List Registration) (calls more : List Call) (replies others : List Data) → AreMembers o before calls replies between → AreMembers o between more others after →
+members_on : (o : Opening) (before between after : Seen) (calls more : List Call) (replies others : List Data) → AreMembers o before calls replies between → AreMembers o between more others after →
     (all : List Data) × AreMembers o before (calls ++ more) all after
 members_on o before between after calls more replies others (none seen) later = (others, later)
 members_on o before between after calls more replies others (next b mid a c d cs ds now rest) later =
@@ -76,41 +78,67 @@ members_on o before between after calls more replies others (next b mid a c d cs
     (with_reply d all.0, next before mid after c d (cs ++ more) all.0 now all.1)
 
 -- a front of later calls is one of all of them
-pub front_behind : (o : Opening) (before between after : List Registration) (calls more : List Call) (replies : List Data) → AreMembers o before calls replies between → IsFront o between more after →
+pub front_behind : (o : Opening) (before between after : Seen) (calls more : List Call) (replies : List Data) → AreMembers o before calls replies between → IsFront o between more after →
     IsFront o before (calls ++ more) after
 front_behind o before between after calls more replies p f =
-    let all : (all : List Data) × AreMembers o before (calls ++ f.done) all after = members_on o before between after calls f.done replies f.replies p f.answered in
-    record { done = calls ++ f.done; more = f.more; are = ap (λ x. calls ++ x) f.are ∙ sym (append_assoc calls f.done f.more); replies = all.0; answered = all.1 }
+    let all : (all : List Data) × AreMembers o before (calls ++ f.done) all f.between = members_on o before between f.between calls f.done replies f.replies p f.answered in
+    record {
+      done = calls ++ f.done;
+      more = f.more;
+      are = ap (λ x. calls ++ x) f.are ∙ sym (append_assoc calls f.done f.more);
+      replies = all.0;
+      between = f.between;
+      answered = all.1;
+      at = f.at;
+      grows = f.grows;
+      looked = f.looked;
+    }
 
 -- more calls come behind
-pub front_before : (o : Opening) (before after : List Registration) (calls more : List Call) → IsFront o before calls after → IsFront o before (calls ++ more) after
-front_before o before after calls more f = record { done = f.done; more = f.more ++ more; are = ap (λ x. x ++ more) f.are ∙ append_assoc f.done f.more more; replies = f.replies; answered = f.answered }
+pub front_before : (o : Opening) (before after : Seen) (calls more : List Call) → IsFront o before calls after → IsFront o before (calls ++ more) after
+front_before o before after calls more f = record {
+  done = f.done;
+  more = f.more ++ more;
+  are = ap (λ x. x ++ more) f.are ∙ append_assoc f.done f.more more;
+  replies = f.replies;
+  between = f.between;
+  answered = f.answered;
+  at = f.at;
+  grows = f.grows;
+  looked = f.looked;
+}
 
 -- ---- one call
 
-pub member_of_line : (o : Opening) (book after : List Registration) (call : Call) (id : RequestId) (line text : List ℕ) → call.id ≡ Some id → IsReplyLine o book id call.asked line after →
-    ((t : List ℕ) → line ≡ t ++ 10 ∷ [] → text ≡ t) → IsMemberText o book call (Some text) after
-member_of_line o book after call id line text e (line_told reply p is) cut = (Some reply, told id reply e p, ap Some (cut (compact_text reply) is))
-member_of_line o book after call id line text e (line_added r p is) cut = (Some _, added id r e p, ap Some (cut _ is))
+pub member_of_line : (o : Opening) (before after : Seen) (call : Call) (id : RequestId) (line text : List ℕ) → call.id ≡ Some id → IsReplyLine o before id call.asked line after →
+    ((t : List ℕ) → line ≡ t ++ 10 ∷ [] → text ≡ t) → IsMemberText o before call (Some text) after
+member_of_line o before after call id line text e (line_told at reply grows p is) cut = (Some reply, told at id reply grows e p, ap Some (cut (compact_text reply) is))
+member_of_line o before after call id line text e (line_added between r grows p is) cut = (Some _, added between id r grows e p, ap Some (cut _ is))
 
-pub member_of_effect : (o : Opening) (book after : List Registration) (call : Call) → call.id ≡ None → IsEffect o book call.asked after → IsMemberText o book call None after
-member_of_effect o book after call e (adds_nothing p) = (None, silent e p, refl)
-member_of_effect o book after call e (adds r p) = (None, added_silently r e p, refl)
+pub member_of_effect : (o : Opening) (before after : Seen) (call : Call) → call.id ≡ None → IsEffect o before call.asked after → IsMemberText o before call None after
+member_of_effect o before after call e (adds_nothing at grows p) = (None, silent at grows e p, refl)
+member_of_effect o before after call e (adds between r grows p) = (None, added_silently between r grows e p, refl)
 
-none_front : (o : Opening) (book : List Registration) (calls : List Call) → IsFront o book calls book
-none_front o book calls = record { done = []; more = calls; are = refl; replies = []; answered = none book }
+-- all of these calls were answered
+front_of_all : (o : Opening) (before after : Seen) (calls : List Call) (replies : List Data) → AreMembers o before calls replies after → IsFront o before calls after
+front_of_all o before after calls replies m = record {
+  done = calls;
+  more = [];
+  are = sym (append-nil calls);
+  replies = replies;
+  between = after;
+  answered = m;
+  at = after.book;
+  grows = grows_none after.book;
+  looked = refl;
+}
 
-whole_front : (o : Opening) (book after : List Registration) (call : Call) (reply : Option Data) → IsMember o book call reply after → IsFront o book (call ∷ []) after
-whole_front o book after call reply m = record { done = call ∷ []; more = []; are = refl; replies = with_reply reply []; answered = next book after after call reply [] [] m (none after) }
+-- none of them was, and perhaps more was seen
+pub front_of_look : (o : Opening) (before : Seen) (at : List Registration) (calls : List Call) → Grows before.book at → IsFront o before calls (at_book at before)
+front_of_look o before at calls grows = record { done = []; more = calls; are = refl; replies = []; between = before; answered = none before; at = at; grows = grows; looked = refl }
 
--- where memory ran out in a call
-pub front_of_call : (o : Opening) (book after : List Registration) (call : Call) → MayHaveDone o book call.asked after → IsFront o book (call ∷ []) after
-front_of_call o book after call did_nothing = none_front o book (call ∷ [])
-front_of_call o book after call (did_add r p) = by call.id refl
-  where
-    by : (id : Option RequestId) → call.id ≡ id → IsFront o book (call ∷ []) (book ++ r ∷ [])
-    by (Some id) e = whole_front o book (book ++ r ∷ []) call _ (added id r e p)
-    by None e = whole_front o book (book ++ r ∷ []) call None (added_silently r e p)
+whole_front : (o : Opening) (before after : Seen) (call : Call) (reply : Option Data) → IsMember o before call reply after → IsFront o before (call ∷ []) after
+whole_front o before after call reply m = front_of_all o before after (call ∷ []) (with_reply reply []) (next before after after call reply [] [] m (none after))
 
 -- ---- the text of a batch
 
@@ -126,10 +154,10 @@ closed_told (d ∷ ds) = ap Some (sym (array_told d ds))
 
 -- ---- one call behind others
 
-pub none_told : (o : Opening) (book : List Registration) (calls : List Call) → AreFirstTold o book calls [] calls book
+pub none_told : (o : Opening) (book : Seen) (calls : List Call) → AreFirstTold o book calls [] calls book
 none_told o book calls = record { done = []; are = refl; told = record { replies = []; members = none book; is_text = refl } }
 
-next_told : (o : Opening) (before between after : List Registration) (calls rest : List Call) (call : Call) (text longer : List ℕ) → AreFirstTold o before calls text (call ∷ rest) between → IsNextTold o between call text longer after →
+next_told : (o : Opening) (before between after : Seen) (calls rest : List Call) (call : Call) (text longer : List ℕ) → AreFirstTold o before calls text (call ∷ rest) between → IsNextTold o between call text longer after →
     AreFirstTold o before calls longer rest after
 next_told o before between after calls rest call text longer f n = record {
   done = f.done ++ call ∷ [];
@@ -141,15 +169,15 @@ next_told o before between after calls rest call text longer f n = record {
   };
 }
 
-front_on : (o : Opening) (before between after : List Registration) (calls rest : List Call) (call : Call) (text : List ℕ) → AreFirstTold o before calls text (call ∷ rest) between → IsFront o between (call ∷ []) after → IsFront o before calls after
+front_on : (o : Opening) (before between after : Seen) (calls rest : List Call) (call : Call) (text : List ℕ) → AreFirstTold o before calls text (call ∷ rest) between → IsFront o between (call ∷ []) after → IsFront o before calls after
 front_on o before between after calls rest call text f n = subst (λ x. IsFront o before x after) (sym f.are)
     (front_behind o before between after f.done (call ∷ rest) f.told.replies f.told.members (front_before o between after (call ∷ []) rest n))
 
-all_told : (o : Opening) (before after : List Registration) (calls : List Call) (text : List ℕ) → AreFirstTold o before calls text [] after → AreMembersText o before calls (text_closed text) after
+all_told : (o : Opening) (before after : Seen) (calls : List Call) (text : List ℕ) → AreFirstTold o before calls text [] after → AreMembersText o before calls (text_closed text) after
 all_told o before after calls text f = (f.told.replies, subst (λ x. AreMembers o before x f.told.replies after) (sym (f.are ∙ append-nil f.done)) f.told.members, ap text_closed f.told.is_text ∙ closed_told f.told.replies)
 
-all_front : (o : Opening) (before after : List Registration) (calls : List Call) (text : List ℕ) → AreFirstTold o before calls text [] after → IsFront o before calls after
-all_front o before after calls text f = record { done = f.done; more = []; are = f.are; replies = f.told.replies; answered = f.told.members }
+all_front : (o : Opening) (before after : Seen) (calls : List Call) (text : List ℕ) → AreFirstTold o before calls text [] after → IsFront o before calls after
+all_front o before after calls text f = subst (λ x. IsFront o before x after) (sym (f.are ∙ append-nil f.done)) (front_of_all o before after f.done f.told.replies f.told.members)
 
 -- ---- the same of all that a pass may have seen
 
@@ -168,7 +196,7 @@ then_broken registry first now later calls rest call text f n o book seen =
     (λ after p. front_on o book so_far.after after calls rest call text so_far.holds p) (n o so_far.after so_far.seen)
 
 -- what holds of all that is seen holds in a weaker form
-pub weaker : (registry : Registry) (first now : Pass) (P Q : Opening → List Registration → List Registration → Type 0) → ((o : Opening) (book after : List Registration) → P o book after → Q o book after) → FromEachBookSeen registry first now P → FromEachBookSeen registry first now Q
+pub weaker : (registry : Registry) (first now : Pass) (P Q : Opening → Seen → Seen → Type 0) → ((o : Opening) (book after : Seen) → P o book after → Q o book after) → FromEachBookSeen registry first now P → FromEachBookSeen registry first now Q
 weaker registry first now P Q f h o book seen = sees_more (HasSeenAt registry now o) book (P o book) (Q o book) (f o book) (h o book seen)
 
 pub told_whole : (registry : Registry) (first now : Pass) (calls : List Call) (text : List ℕ) (whole : Option (List ℕ)) → whole ≡ text_closed text → FromEachBookSeen registry first now (λ o book. AreFirstTold o book calls text []) →
@@ -181,7 +209,7 @@ whole_broken registry first now calls text h = weaker registry first now (λ o b
 
 -- ---- one call behind others, from its text
 
-pub next_some : (o : Opening) (book after : List Registration) (call : Call) (text longer reply : List ℕ) (reply_text : Option (List ℕ)) → reply_text ≡ Some reply → longer ≡ text_with text reply → IsMemberText o book call reply_text after → IsNextTold o book call text longer after
+pub next_some : (o : Opening) (book after : Seen) (call : Call) (text longer reply : List ℕ) (reply_text : Option (List ℕ)) → reply_text ≡ Some reply → longer ≡ text_with text reply → IsMemberText o book call reply_text after → IsNextTold o book call text longer after
 next_some o book after call text longer reply reply_text is then h = by h.0 h.1 (sym is ∙ h.2)
   where
     by : (d : Option Data) → IsMember o book call d after → Some reply ≡ option_map compact_text d → IsNextTold o book call text longer after
@@ -190,25 +218,25 @@ next_some o book after call text longer reply reply_text is then h = by h.0 h.1 
         let same : reply ≡ compact_text d = cc e in
         (Some d, m, then ∙ ap (text_with text) same)
 
-pub next_none : (o : Opening) (book after : List Registration) (call : Call) (text : List ℕ) (reply_text : Option (List ℕ)) → reply_text ≡ None → IsMemberText o book call reply_text after → IsNextTold o book call text text after
+pub next_none : (o : Opening) (book after : Seen) (call : Call) (text : List ℕ) (reply_text : Option (List ℕ)) → reply_text ≡ None → IsMemberText o book call reply_text after → IsNextTold o book call text text after
 next_none o book after call text reply_text is h = by h.0 h.1 (sym is ∙ h.2)
   where
     by : (d : Option Data) → IsMember o book call d after → None ≡ option_map compact_text d → IsNextTold o book call text text after
     by None m e = (None, m, refl)
     by (Some d) m e = absurd (cc e)
 
-pub front_of_text : (o : Opening) (book after : List Registration) (call : Call) (reply_text : Option (List ℕ)) → IsMemberText o book call reply_text after → IsFront o book (call ∷ []) after
+pub front_of_text : (o : Opening) (book after : Seen) (call : Call) (reply_text : Option (List ℕ)) → IsMemberText o book call reply_text after → IsFront o book (call ∷ []) after
 front_of_text o book after call reply_text h = whole_front o book after call h.0 h.1
 
 -- ---- frames
 
-pub answer_alone : (o : Opening) (before after : List Registration) (bytes : List ℕ) (call : Call) (reply_text : Option (List ℕ)) → Asks bytes (single call) → IsMemberText o before call reply_text after → IsAnswer o before bytes reply_text after
+pub answer_alone : (o : Opening) (before after : Seen) (bytes : List ℕ) (call : Call) (reply_text : Option (List ℕ)) → Asks bytes (single call) → IsMemberText o before call reply_text after → IsAnswer o before bytes reply_text after
 answer_alone o before after bytes call reply_text asked h = subst (λ x. IsAnswer o before bytes x after) (sym h.2) (alone call h.0 after asked h.1)
 
-pub answer_together : (o : Opening) (before after : List Registration) (bytes : List ℕ) (calls : List Call) (reply_text : Option (List ℕ)) → Asks bytes (batch calls) → AreMembersText o before calls reply_text after → IsAnswer o before bytes reply_text after
+pub answer_together : (o : Opening) (before after : Seen) (bytes : List ℕ) (calls : List Call) (reply_text : Option (List ℕ)) → Asks bytes (batch calls) → AreMembersText o before calls reply_text after → IsAnswer o before bytes reply_text after
 answer_together o before after bytes calls reply_text asked h = subst (λ x. IsAnswer o before bytes x after) (sym h.2) (together calls h.0 after asked h.1)
 
-pub answer_refused : (o : Opening) (before : List Registration) (bytes : List ℕ) (e : RequestError) (text : List ℕ) → Asks bytes (refused_whole e) → text ≡ compact_text (error_reply id_null e) → IsAnswer o before bytes (Some text) before
+pub answer_refused : (o : Opening) (before : Seen) (bytes : List ℕ) (e : RequestError) (text : List ℕ) → Asks bytes (refused_whole e) → text ≡ compact_text (error_reply id_null e) → IsAnswer o before bytes (Some text) before
 answer_refused o before bytes e text asked is = subst (λ x. IsAnswer o before bytes (Some x) before) (sym is) (refusal e asked)
 
 -- ---- calls by their ids
@@ -217,6 +245,9 @@ pub with_id : (registry : Registry) (first now : Pass) (id other : Option Reques
     FromEachBookSeen registry first now (λ o book. IsMemberText o book (call_of id asked) reply_text)
 with_id registry first now id other asked reply_text is h = subst (λ i. FromEachBookSeen registry first now (λ o book. IsMemberText o book (call_of i asked) reply_text)) (sym is) h
 
-pub front_with_id : (registry : Registry) (first now : Pass) (id other : Option RequestId) (asked : Asked) → id ≡ other → FromEachBookSeen registry first now (λ o book. IsFront o book (call_of other asked ∷ [])) →
-    FromEachBookSeen registry first now (λ o book. IsFront o book (call_of id asked ∷ []))
-front_with_id registry first now id other asked is h = subst (λ i. FromEachBookSeen registry first now (λ o book. IsFront o book (call_of i asked ∷ []))) (sym is) h
+-- where memory ran out in a call
+pub looked_front : (registry : Registry) (before after : Pass) (calls : List Call) → IsPassOf registry after → HasLooked before after → FromEachBookSeen registry before after (λ o seen. IsFront o seen calls)
+looked_front registry before after calls is looked = looks registry before after (λ o seen. IsFront o seen calls) is looked (λ o s at grows seen. front_of_look o s at calls grows)
+
+pub looked_begun : (registry : Registry) (before after : Pass) (bytes : List ℕ) → IsPassOf registry after → HasLooked before after → FromEachBookSeen registry before after (λ o seen. IsBegun o seen bytes)
+looked_begun registry before after bytes is looked = looks registry before after (λ o seen. IsBegun o seen bytes) is looked (λ o s at grows seen. not_begun at grows)

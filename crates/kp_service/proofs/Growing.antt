@@ -1,58 +1,37 @@
--- What answering a frame does to the book.
-use Rattle.std.proofs.Common.{refl, ℕ, List, [], ◌∷◌, ◌++◌, Option}
+-- What answering a frame does to what is seen.
+use Rattle.std.proofs.Common.{◌≡◌, sym, subst, ℕ, List, Option}
 use Rattle.serde_json.specs.Data.{Data}
-use Rattle.kp_requests.specs.Requests.{Asked, asks, refused, execute, implies, simplify, add_module, Call}
-use Rattle.kp_book.specs.Books.{Opening, Registration, Grows}
+use Rattle.kp_requests.specs.Requests.{Call}
+use Rattle.kp_book.specs.Books.{Opening, Seen, SeenGrows}
+use Rattle.kp_book.proofs.BookLemmas.{at_grows, own_grows, seen_grows_none, seen_grows_on}
 use Rattle.kp_registry.specs.Legal.{IsLegal}
-use Rattle.kp_registry.proofs.LegalLemmas.{stays_legal}
-use Rattle.kp_conn.proofs.Conversing.{grows_none, grows_on}
-use Rattle.kp_service.specs.Answers.{Adds, IsMember, told, added, silent, added_silently, AreMembers, none, next, IsAnswer, refusal, alone, together, IsBegun, not_begun, begun_alone, begun_together}
+use Rattle.kp_registry.proofs.Continuing.{front_legal}
+use Rattle.kp_service.specs.Answers.{IsMember, told, added, silent, added_silently, AreMembers, none, next, IsAnswer, refusal, alone, together, IsFront, IsBegun, not_begun, begun_together}
 
-member_grows : (o : Opening) (before after : List Registration) (call : Call) (reply : Option Data) → IsMember o before call reply after → Grows before after
-member_grows o before after call reply (told id d e p) = grows_none before
-member_grows o before after call reply (added id r e p) = (r ∷ [], refl)
-member_grows o before after call reply (silent e p) = grows_none before
-member_grows o before after call reply (added_silently r e p) = (r ∷ [], refl)
+member_grows : (o : Opening) (before after : Seen) (call : Call) (reply : Option Data) → IsMember o before call reply after → SeenGrows before after
+member_grows o before after call reply (told at id d grows e p) = at_grows at before grows
+member_grows o before after call reply (added between id r grows e p) = own_grows between r before grows
+member_grows o before after call reply (silent at grows e p) = at_grows at before grows
+member_grows o before after call reply (added_silently between r grows e p) = own_grows between r before grows
 
-members_grow : (o : Opening) (before after : List Registration) (calls : List Call) (replies : List Data) → AreMembers o before calls replies after → Grows before after
-members_grow o before after calls replies (none seen) = grows_none before
-members_grow o before after calls replies (next b between a call reply more rs now later) = grows_on before between after (member_grows o before between call reply now) (members_grow o between after more rs later)
+members_grow : (o : Opening) (before after : Seen) (calls : List Call) (replies : List Data) → AreMembers o before calls replies after → SeenGrows before after
+members_grow o before after calls replies (none seen) = seen_grows_none before
+members_grow o before after calls replies (next b between a call reply more rs now later) = seen_grows_on before between after (member_grows o before between call reply now) (members_grow o between after more rs later)
 
-pub answer_grows : (o : Opening) (before after : List Registration) (bytes : List ℕ) (reply : Option (List ℕ)) → IsAnswer o before bytes reply after → Grows before after
-answer_grows o before after bytes reply (refusal e a) = grows_none before
+pub answer_grows : (o : Opening) (before after : Seen) (bytes : List ℕ) (reply : Option (List ℕ)) → IsAnswer o before bytes reply after → SeenGrows before after
+answer_grows o before after bytes reply (refusal e a) = seen_grows_none before
 answer_grows o before after bytes reply (alone call d x a m) = member_grows o before after call d m
 answer_grows o before after bytes reply (together calls ds x a m) = members_grow o before after calls ds m
 
-pub begun_grows : (o : Opening) (before after : List Registration) (bytes : List ℕ) → IsBegun o before bytes after → Grows before after
-begun_grows o before after bytes not_begun = grows_none before
-begun_grows o before after bytes (begun_alone call x a f) = members_grow o before after f.done f.replies f.answered
-begun_grows o before after bytes (begun_together calls x a f) = members_grow o before after f.done f.replies f.answered
+front_grows : (o : Opening) (before after : Seen) (calls : List Call) → IsFront o before calls after → SeenGrows before after
+front_grows o before after calls f = subst (SeenGrows before) (sym f.looked) (seen_grows_on before f.between _ (members_grow o before f.between f.done f.replies f.answered) (at_grows f.at f.between f.grows))
+
+pub begun_grows : (o : Opening) (before after : Seen) (bytes : List ℕ) → IsBegun o before bytes after → SeenGrows before after
+begun_grows o before after bytes (not_begun at grows) = at_grows at before grows
+begun_grows o before after bytes (begun_together calls x a f) = front_grows o before after calls f
 
 -- ---- legal books
 
-adding_keeps : (o : Opening) (book : List Registration) (asked : Asked) (r : Registration) → IsLegal o book → Adds o book asked r → IsLegal o (book ++ r ∷ [])
-adding_keeps o book (asks (add_module text name_as_id)) r legal p = stays_legal o book r legal p.room p.fits
-adding_keeps o book (asks (execute s x)) r legal p = absurd p
-adding_keeps o book (asks (implies a c x)) r legal p = absurd p
-adding_keeps o book (asks (simplify s x)) r legal p = absurd p
-adding_keeps o book (refused e) r legal p = absurd p
-
-member_keeps : (o : Opening) (before after : List Registration) (call : Call) (reply : Option Data) → IsLegal o before → IsMember o before call reply after → IsLegal o after
-member_keeps o before after call reply legal (told id d e p) = legal
-member_keeps o before after call reply legal (added id r e p) = adding_keeps o before call.asked r legal p
-member_keeps o before after call reply legal (silent e p) = legal
-member_keeps o before after call reply legal (added_silently r e p) = adding_keeps o before call.asked r legal p
-
-members_keep : (o : Opening) (before after : List Registration) (calls : List Call) (replies : List Data) → IsLegal o before → AreMembers o before calls replies after → IsLegal o after
-members_keep o before after calls replies legal (none seen) = legal
-members_keep o before after calls replies legal (next b between a call reply more rs now later) = members_keep o between after more rs (member_keeps o before between call reply legal now) later
-
-pub answer_keeps : (o : Opening) (before after : List Registration) (bytes : List ℕ) (reply : Option (List ℕ)) → IsLegal o before → IsAnswer o before bytes reply after → IsLegal o after
-answer_keeps o before after bytes reply legal (refusal e a) = legal
-answer_keeps o before after bytes reply legal (alone call d x a m) = member_keeps o before after call d legal m
-answer_keeps o before after bytes reply legal (together calls ds x a m) = members_keep o before after calls ds legal m
-
-pub begun_keeps : (o : Opening) (before after : List Registration) (bytes : List ℕ) → IsLegal o before → IsBegun o before bytes after → IsLegal o after
-begun_keeps o before after bytes legal not_begun = legal
-begun_keeps o before after bytes legal (begun_alone call x a f) = members_keep o before after f.done f.replies legal f.answered
-begun_keeps o before after bytes legal (begun_together calls x a f) = members_keep o before after f.done f.replies legal f.answered
+-- a book with which a legal book begins is legal
+pub was_legal : (o : Opening) (before after : Seen) → SeenGrows before after → IsLegal o after.book → IsLegal o before.book
+was_legal o before after grows legal = front_legal o before.book grows.book.0 (subst (IsLegal o) grows.book.1 legal)

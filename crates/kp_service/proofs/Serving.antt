@@ -1,8 +1,8 @@
 -- The module that is asked, and what is served of it; calls that leave the book.
-use Rattle.std.proofs.Common.{◌≡◌, ◌∙◌, refl, sym, ap, subst, ℕ, List, [], ◌∷◌, Option, Some, None, Result, Ok, Err, Vec, ◌⊎◌, inl, inr, string_bytes}
+use Rattle.std.proofs.Common.{◌≡◌, ◌∙◌, refl, sym, ap, subst, arith, ℕ, List, [], ◌∷◌, Option, Some, None, Result, Ok, Err, Vec, ◌⊎◌, inl, inr, string_bytes}
 use Rattle.std.specs.Option.{option_map, IsSome, IfSome}
 use Rattle.std.proofs.lemmas.Result.{IfOk-weaker}
-use Rattle.std.specs.Result.{IfOk, OnErr, OnOk}
+use Rattle.std.specs.Result.{IfOk, OnOk}
 use Rattle.std.specs.declared.alloc.Global.{Global}
 use Rattle.std.specs.Prelude.{String}
 use Rattle.serde_json.specs.Data.{Data}
@@ -14,28 +14,33 @@ use Rattle.kp_rule_sets.specs.declared.rule_set.RuleSet.{RuleSet}
 use Rattle.kp_rpc.specs.Request.{RequestId}
 use Rattle.kp_rpc.specs.Reply.{error_reply, no_module, reply_bytes}
 use Rattle.kp_requests.specs.Requests.{Asked}
-use Rattle.kp_book.specs.Books.{Opening, Registration, first_of, rules_bound}
+use Rattle.kp_book.specs.Books.{Opening, Registration, Seen, Grows, at_book, first_of, rules_bound}
+use Rattle.kp_book.proofs.BookLemmas.{at_grows}
 use Rattle.kp_modules.specs.Made.{IsSetOf}
 use Rattle.kp_modules.specs.Openings.{IsTableOf}
 use Rattle.kp_modules.specs.Tables.{rule_set_of}
-use Rattle.kp_registry.specs.Passes.{MeansAt}
+use Rattle.std.specs.List.{AllZip}
+use Rattle.kp_history.specs.Passes.{positions, seen}
+use Rattle.kp_modules.specs.declared.table.ModuleTable.{ModuleTable}
+use Rattle.kp_registry.specs.Passes.{IsEntryOf, MeansAt}
+use Rattle.kp_registry.specs.declared.seen.Entry.{Entry}
 use Rattle.kp_registry.specs.declared.book.Registry.{Registry}
-use Rattle.kp_registry.specs.declared.seen.Pass.{Pass}
-use Rattle.kp_conn.proofs.Conversing.{sees_same}
+use Rattle.kp_registry.specs.Registries.{IsPassOf, table_of}
 use Rattle.kp_methods.specs.ServedTheory.{IsElsewhere, ServedTheory}
 use Rattle.kp_methods.specs.Simplified.{IsSimplifiedAs}
 use Rattle.kp_service.specs.Answered.{IsReplyIn, no_such_module, in_module}
 use Rattle.kp_service.specs.Answers.{AddsNothing, IsReplyTo}
-use Rattle.kp_service.specs.Batches.{FromEachBookSeen, IsEffect, adds_nothing, IsReplyLine, line_told, MayHaveDone, did_nothing}
+use Rattle.kp_service.specs.Batches.{FromEachBookSeen, IsEffect, adds_nothing, IsReplyLine, line_told}
 use Rattle.kp_service.specs.Meant.{IsServedAt, module_asked}
 use Rattle.kp_service.specs.Ready.{signature_over}
-use Rattle.kp_additions.specs.Served.{HasSeenAt}
+use Rattle.kp_additions.specs.Served.{AtEachBookSeen, HasLooked, HasSeenAt, Pass, nothing_seen}
+use Rattle.kp_additions.proofs.Later.{looked_none, sees_later}
 use Rattle.kp_methods.specs.ImpliedLines.{IsLineOf}
 
 -- ---- the module that is asked
 
 -- main means the rule set of the table
-pub main_means : (o : Opening) (book : List Registration) (registry : Registry) → IsTableOf o registry.table → (rules : RuleSet) → rules ≡ rule_set_of registry.table → MeansAt o book o.main (Some rules)
+pub main_means : (o : Opening) (book : List Registration) (registry : Registry) → IsTableOf o (table_of registry) → (rules : RuleSet) → rules ≡ rule_set_of (table_of registry) → MeansAt o book o.main (Some rules)
 main_means o book registry t rules is = (t.axioms, ap (λ m. first_of m (rules_bound book o.main)) t.bound, subst (IsSetOf o.signature t.axioms) (sym is) t.rules)
 
 -- what is served where a module is asked that means this rule set
@@ -85,68 +90,74 @@ was_asked (Some r) asked is either = absurd (cc is)
 -- ---- for all that was seen
 
 -- what an outcome has for each book it has for all of them
-pub for_all : {T E : Type 0} (r : Result T E) (Seen : Opening → List Registration → Type 0) (Holds : Opening → List Registration → T → Type 0) →
-    ((o : Opening) (book : List Registration) → Seen o book → IfOk r (Holds o book)) → IfOk r (λ x. (o : Opening) (book : List Registration) → Seen o book → Holds o book x)
-for_all (Ok x) Seen Holds h = h
-for_all (Err e) Seen Holds h = tt
+pub for_all : {T E : Type 0} (r : Result T E) (registry : Registry) (pass : Pass) (Holds : Opening → List Registration → T → Type 0) →
+    ((o : Opening) (s : Seen) → HasSeenAt registry pass o s → IfOk r (Holds o s.book)) → IfOk r (λ x. AtEachBookSeen registry pass (λ o book. Holds o book x))
+for_all (Ok x) registry pass Holds h = h
+for_all (Err e) registry pass Holds h = tt
 
 pub for_any : {T E : Type 0} (r : Result T E) (Holds : T → Type 0) → ((x : T) → Holds x) → IfOk r Holds
 for_any (Ok x) Holds h = h x
 for_any (Err e) Holds h = tt
 
--- ---- what was seen stays
+-- ---- a call that looks
 
--- the pass is the one before, and this holds of what it has seen
-pub stays : (registry : Registry) (before after : Pass) (Holds : Opening → List Registration → List Registration → Type 0) → after ≡ before →
-    ((o : Opening) (book : List Registration) → HasSeenAt registry before o book → Holds o book book) → FromEachBookSeen registry before after Holds
-stays registry before after Holds same h o book seen = sees_same (HasSeenAt registry after o) (Holds o book) book (subst (λ p. HasSeenAt registry p o book) (sym same) seen) (h o book seen)
+-- the pass has looked, and this holds at the book that it has seen
+pub looks : (registry : Registry) (before after : Pass) (Holds : Opening → Seen → Seen → Type 0) → IsPassOf registry after → HasLooked before after →
+    ((o : Opening) (s : Seen) (at : List Registration) → Grows s.book at → HasSeenAt registry after o (at_book at s) → Holds o s (at_book at s)) → FromEachBookSeen registry before after Holds
+looks registry before after Holds is looked h o s had =
+    let l = sees_later registry before after o s is looked had in
+    record { after = at_book l.at s; seen = l.seen; grows = at_grows l.at s l.grows; holds = h o s l.at l.grows l.seen }
 
 -- the same of what is asked, by another name
-pub lines_of : (registry : Registry) (before after : Pass) (id : RequestId) (x y : Asked) (line : List ℕ) → x ≡ y → FromEachBookSeen registry before after (λ o book. IsReplyLine o book id y line) →
-    FromEachBookSeen registry before after (λ o book. IsReplyLine o book id x line)
-lines_of registry before after id x y line is h = subst (λ z. FromEachBookSeen registry before after (λ o book. IsReplyLine o book id z line)) (sym is) h
+pub lines_of : (registry : Registry) (before after : Pass) (id : RequestId) (x y : Asked) (line : List ℕ) → x ≡ y → FromEachBookSeen registry before after (λ o seen. IsReplyLine o seen id y line) →
+    FromEachBookSeen registry before after (λ o seen. IsReplyLine o seen id x line)
+lines_of registry before after id x y line is h = subst (λ z. FromEachBookSeen registry before after (λ o seen. IsReplyLine o seen id z line)) (sym is) h
 
-pub begun_of : {T E : Type 0} (r : Result T E) (registry : Registry) (before after : Pass) (x y : Asked) → x ≡ y → OnErr r (FromEachBookSeen registry before after (λ o book. MayHaveDone o book y)) →
-    OnErr r (FromEachBookSeen registry before after (λ o book. MayHaveDone o book x))
-begun_of r registry before after x y is h = subst (λ z. OnErr r (FromEachBookSeen registry before after (λ o book. MayHaveDone o book z))) (sym is) h
+pub effect_of : {T E : Type 0} (r : Result T E) (registry : Registry) (before after : Pass) (x y : Asked) → x ≡ y → OnOk r (FromEachBookSeen registry before after (λ o seen. IsEffect o seen y)) →
+    OnOk r (FromEachBookSeen registry before after (λ o seen. IsEffect o seen x))
+effect_of r registry before after x y is h = subst (λ z. OnOk r (FromEachBookSeen registry before after (λ o seen. IsEffect o seen z))) (sym is) h
 
-pub effect_of : {T E : Type 0} (r : Result T E) (registry : Registry) (before after : Pass) (x y : Asked) → x ≡ y → OnOk r (FromEachBookSeen registry before after (λ o book. IsEffect o book y)) →
-    OnOk r (FromEachBookSeen registry before after (λ o book. IsEffect o book x))
-effect_of r registry before after x y is h = subst (λ z. OnOk r (FromEachBookSeen registry before after (λ o book. IsEffect o book z))) (sym is) h
+pub no_effect : (registry : Registry) (pass : Pass) (x y : Asked) → IsPassOf registry pass → x ≡ y → ((o : Opening) (book : List Registration) → AddsNothing o book y) → FromEachBookSeen registry pass pass (λ o seen. IsEffect o seen x)
+no_effect registry pass x y pass_of is h = looks registry pass pass (λ o seen. IsEffect o seen x) pass_of (looked_none pass) (λ o s at grows seen. subst (λ z. IsEffect o s z (at_book at s)) (sym is) (adds_nothing at grows (h o at)))
 
-pub no_effect : (registry : Registry) (pass : Pass) (x y : Asked) → x ≡ y → ((o : Opening) (book : List Registration) → AddsNothing o book y) → FromEachBookSeen registry pass pass (λ o book. IsEffect o book x)
-no_effect registry pass x y is h = stays registry pass pass (λ o book. IsEffect o book x) refl (λ o book seen. subst (λ z. IsEffect o book z book) (sym is) (adds_nothing (h o book)))
-
-pub nothing_done : (registry : Registry) (before after : Pass) (asked : Asked) → after ≡ before → FromEachBookSeen registry before after (λ o book. MayHaveDone o book asked)
-nothing_done registry before after asked same = stays registry before after (λ o book. MayHaveDone o book asked) same (λ o book seen. did_nothing)
-
--- a line that is right, of a call that leaves the book
-pub line_stays : (registry : Registry) (before after : Pass) (id : RequestId) (asked : Asked) (line : List ℕ) → after ≡ before →
-    ((o : Opening) (book : List Registration) → HasSeenAt registry before o book → IsLineOf (IsReplyTo o book id asked) line) → FromEachBookSeen registry before after (λ o book. IsReplyLine o book id asked line)
-line_stays registry before after id asked line same h = stays registry before after (λ o book. IsReplyLine o book id asked line) same (λ o book seen. let l = h o book seen in line_told l.0 l.1 l.2)
+-- a line that is right, of a call that looks
+pub line_stays : (registry : Registry) (before after : Pass) (id : RequestId) (asked : Asked) (line : List ℕ) → IsPassOf registry after → HasLooked before after →
+    AtEachBookSeen registry after (λ o book. IsLineOf (IsReplyTo o book id asked) line) → FromEachBookSeen registry before after (λ o seen. IsReplyLine o seen id asked line)
+line_stays registry before after id asked line is looked h =
+    looks registry before after (λ o seen. IsReplyLine o seen id asked line) is looked (λ o s at grows seen. let l = h o (at_book at s) seen in line_told at l.0 grows l.1 l.2)
 
 -- ---- what a call of a method is answered
 
 -- the line over the module that is asked
 pub served_line : {E : Type 0} (r : Result (Vec ℕ Global) E) (registry : Registry) (pass : Pass) (asked : Option Text) (found : Option RuleSet) (rules : RuleSet) (id : RequestId) (RightOver : ServedTheory → Data → Type 0) → found ≡ Some rules →
-    ((o : Opening) (book : List Registration) → HasSeenAt registry pass o book → MeansAt o book (module_asked o asked) found) →
+    AtEachBookSeen registry pass (λ o book. MeansAt o book (module_asked o asked) found) →
     ((s : ServedTheory) → RunsAs s.theory rules → ¬ IsElsewhere s.main asked → signature_over registry ≡ s.theory.signature → IfOk r (λ line. IsLineOf (RightOver s) line.items)) →
-    IfOk r (λ line. (o : Opening) (book : List Registration) → HasSeenAt registry pass o book → IsLineOf (IsReplyIn o book asked id RightOver) line.items)
+    IfOk r (λ line. AtEachBookSeen registry pass (λ o book. IsLineOf (IsReplyIn o book asked id RightOver) line.items))
 served_line r registry pass asked found rules id RightOver is means right =
-    for_all r (HasSeenAt registry pass) (λ o book line. IsLineOf (IsReplyIn o book asked id RightOver) line.items)
-    (λ o book seen. let s = serves o book asked rules (subst (MeansAt o book (module_asked o asked)) is (means o book seen)) in
-    IfOk-weaker r _ _ (λ line l. in_module_line o book asked id RightOver s.setting s.served line.items l) (right s.setting s.runs s.here (seen.table.rules.signature ∙ s.over)))
+    for_all r registry pass (λ o book line. IsLineOf (IsReplyIn o book asked id RightOver) line.items)
+    (λ o at seen. let s = serves o at.book asked rules (subst (MeansAt o at.book (module_asked o asked)) is (means o at seen)) in
+    IfOk-weaker r _ _ (λ line l. in_module_line o at.book asked id RightOver s.setting s.served line.items l) (right s.setting s.runs s.here (seen.table.rules.signature ∙ s.over)))
 
 -- the line where no such module is there
 pub unserved_line : {E : Type 0} (r : Result (Vec ℕ Global) E) (registry : Registry) (pass : Pass) (asked : Option (String Global)) (found : Option RuleSet) (id : RequestId) (RightOver : ServedTheory → Data → Type 0) → found ≡ None → IsSome asked →
-    ((o : Opening) (book : List Registration) → HasSeenAt registry pass o book → MeansAt o book (module_asked o (option_map string_bytes asked)) found) →
+    AtEachBookSeen registry pass (λ o book. MeansAt o book (module_asked o (option_map string_bytes asked)) found) →
     IfOk r (λ line. IfSome asked (λ name. line.items ≡ reply_bytes (error_reply id (no_module (string_bytes name))))) →
-    IfOk r (λ line. (o : Opening) (book : List Registration) → HasSeenAt registry pass o book → IsLineOf (IsReplyIn o book (option_map string_bytes asked) id RightOver) line.items)
+    IfOk r (λ line. AtEachBookSeen registry pass (λ o book. IsLineOf (IsReplyIn o book (option_map string_bytes asked) id RightOver) line.items))
 unserved_line r registry pass asked found id RightOver is some means told =
-    for_all r (HasSeenAt registry pass) (λ o book line. IsLineOf (IsReplyIn o book (option_map string_bytes asked) id RightOver) line.items)
-    (λ o book seen. IfOk-weaker r _ _ (λ line l. no_module_line o book asked id RightOver some (subst (MeansAt o book (module_asked o (option_map string_bytes asked))) is (means o book seen)) line.items l) told)
+    for_all r registry pass (λ o book line. IsLineOf (IsReplyIn o book (option_map string_bytes asked) id RightOver) line.items)
+    (λ o at seen. IfOk-weaker r _ _ (λ line l. no_module_line o at.book asked id RightOver some (subst (MeansAt o at.book (module_asked o (option_map string_bytes asked))) is (means o at seen)) line.items l) told)
 
 -- the name that is asked means what it means
 pub asked_means : (o : Opening) (book : List Registration) (asked : Option (String Global)) (name : String Global) (text : Text) (rules : Option RuleSet) → asked ≡ Some name → text ≡ string_bytes name → MeansAt o book text rules →
     MeansAt o book (module_asked o (option_map string_bytes asked)) rules
 asked_means o book asked name text rules is same m = subst (λ a. MeansAt o book (module_asked o (option_map string_bytes a)) rules) (sym is) (subst (λ t. MeansAt o book t rules) same m)
+
+-- ---- nothing was seen
+
+pub begun_seen : (registry : Registry) (pass : Pass) (table : ModuleTable) → (table_of registry ≡ table) → seen pass ≡ [] → positions pass ≡ [] → (o : Opening) → IsTableOf o table → HasSeenAt registry pass o nothing_seen
+begun_seen registry pass table is none own o opens = record {
+  table = subst (IsTableOf o) (sym is) opens;
+  seen = subst (λ (es : List Entry). AllZip (IsEntryOf o.signature) [] es) (sym none) tt;
+  legal = record { entries = tt; room = omega arith };
+  own = sym own;
+}

@@ -9,17 +9,21 @@ ghost use Rattle.kp_additions.specs.Told.{failure_told};
 ghost use Rattle.kp_replies.specs.View.{failure_view};
 ghost use Rattle.kp_replies.specs.Written.{added_tree};
 ghost use Rattle.kp_requests.specs.Requests.{asks, add_module};
-ghost use Rattle.kp_registry.specs.Passes.{IsPass};
-ghost use Rattle.kp_service.specs.Batches.{FromEachBookSeen, IsAddFailure, IsEffect, IsReplyLine, MayHaveDone};
+ghost use Rattle.kp_registry.specs.Registries.{IsPassOf};
+ghost use Rattle.kp_additions.specs.Served.{HasLooked};
+ghost use Rattle.kp_service.specs.Batches.{FromEachBookSeen, IsAddFailure, IsEffect, IsReplyLine};
 
 use kp_additions::{AdditionError, add_module};
-use kp_registry::{Id as ModuleId, Pass, Registry};
+use kp_registry::{Id as ModuleId, Pass, Registry, id_of};
 use kp_replies::{Failure, added_text, failure_text};
 use kp_rpc::Id;
 use std::alloc::{AllocError, Global};
+use std::sync::Wait;
 
-/// The reply to a request of add-module.
-pub fn added_line(
+/// The reply to a request of add-module. The line with its id is made before the module is entered: so nothing was entered
+/// where memory runs out.
+pub fn added_line<R: Wait>(
+    rt: &R,
     alloc: Global,
     registry: &Registry,
     pass: &mut Pass,
@@ -27,13 +31,15 @@ pub fn added_line(
     text: String,
     name_as_id: bool,
 ) -> Result<Vec<u8>, AllocError>
-    requires pass { IsPass pass.old }
-    ensures pass { IsPass pass.new }
-    ensures told { let asked = asks (add_module (string_bytes text) name_as_id) in IfOk result (λ line. FromEachBookSeen registry.now pass.old pass.new (λ o book. IsReplyLine o book (id_view id.now) asked line.items)) }
-    ensures begun { OnErr result (FromEachBookSeen registry.now pass.old pass.new (λ o book. MayHaveDone o book (asks (add_module (string_bytes text) name_as_id)))) }
+    requires pass { IsPassOf registry.now pass.old }
+    ensures pass { IsPassOf registry.now pass.new }
+    ensures told { let asked = asks (add_module (string_bytes text) name_as_id) in IfOk result (λ line. FromEachBookSeen registry.now pass.old pass.new (λ o seen. IsReplyLine o seen (id_view id.now) asked line.items)) }
+    ensures left { OnErr result (HasLooked pass.old pass.new) }
 {
-    match add_module(alloc, registry, pass, text.into_bytes(), name_as_id) {
-        Ok(module_id) => id_line(alloc, id, &module_id),
+    let bytes = text.into_bytes();
+    let line = id_line(alloc, id, &id_of(&bytes))?;
+    match add_module(rt, alloc, registry, pass, bytes, name_as_id) {
+        Ok(_same) => Ok(line),
         Err(AdditionError::Bad(fault)) => refused_line(alloc, id, &Failure::BadModule(fault)),
         Err(AdditionError::Duplicate { entry, name }) => {
             refused_line(alloc, id, &Failure::Duplicate { entry, name })
@@ -43,19 +49,20 @@ pub fn added_line(
 }
 
 /// What a notification of add-module does.
-pub fn add_silently(
+pub fn add_silently<R: Wait>(
+    rt: &R,
     alloc: Global,
     registry: &Registry,
     pass: &mut Pass,
     text: String,
     name_as_id: bool,
 ) -> Result<(), AllocError>
-    requires pass { IsPass pass.old }
-    ensures pass { IsPass pass.new }
-    ensures done { OnOk result (FromEachBookSeen registry.now pass.old pass.new (λ o book. IsEffect o book (asks (add_module (string_bytes text) name_as_id)))) }
-    ensures begun { OnErr result (FromEachBookSeen registry.now pass.old pass.new (λ o book. MayHaveDone o book (asks (add_module (string_bytes text) name_as_id)))) }
+    requires pass { IsPassOf registry.now pass.old }
+    ensures pass { IsPassOf registry.now pass.new }
+    ensures done { OnOk result (FromEachBookSeen registry.now pass.old pass.new (λ o seen. IsEffect o seen (asks (add_module (string_bytes text) name_as_id)))) }
+    ensures left { OnErr result (HasLooked pass.old pass.new) }
 {
-    match add_module(alloc, registry, pass, text.into_bytes(), name_as_id) {
+    match add_module(rt, alloc, registry, pass, text.into_bytes(), name_as_id) {
         Ok(_id) => Ok(()),
         Err(error) => unless_memory(&error),
     }

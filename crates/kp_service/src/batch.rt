@@ -1,7 +1,7 @@
 // The calls of a batch, whose replies stand in one array.
 ghost use Rattle.std.specs.Prelude.{◌≡◌, ◌∷◌, [], IfOk, OnErr, OnOk, option_map};
 ghost use Rattle.kp_requests.specs.View.{call_view, calls_view};
-ghost use Rattle.kp_registry.specs.Passes.{IsPass};
+ghost use Rattle.kp_registry.specs.Registries.{IsPassOf};
 ghost use Rattle.kp_service.specs.Answers.{IsFront};
 ghost use Rattle.kp_service.specs.Batches.{FromEachBookSeen, AreMembersText, IsNextTold, text_closed, text_with};
 ghost use Rattle.kp_service.specs.Ready.{IsReadyFor};
@@ -11,30 +11,33 @@ use kp_methods::Prepared;
 use kp_registry::{Pass, Registry};
 use kp_requests::Call;
 use std::alloc::{AllocError, Global};
+use std::sync::Wait;
 
 /// The text of the replies to a batch's calls in order, as one array; none where none of them has a reply.
-pub fn answered_batch(
+pub fn answered_batch<R: Wait>(
+    rt: &R,
     alloc: Global,
     registry: &Registry,
     prepared: &Prepared,
     pass: &mut Pass,
     calls: Vec<Call>,
 ) -> Result<Option<Vec<u8>>, AllocError>
-    requires pass { IsPass pass.old }
+    requires pass { IsPassOf registry.now pass.old }
     requires prepared { IsReadyFor registry.now prepared.now }
-    ensures pass { IsPass pass.new }
-    ensures told { let calls' = calls_view calls.items in IfOk result (λ array. FromEachBookSeen registry.now pass.old pass.new (λ o book. AreMembersText o book calls' (option_map (λ text. text.items) array))) }
-    ensures begun { OnErr result (FromEachBookSeen registry.now pass.old pass.new (λ o book. IsFront o book (calls_view calls.items))) }
+    ensures pass { IsPassOf registry.now pass.new }
+    ensures told { let calls' = calls_view calls.items in IfOk result (λ array. FromEachBookSeen registry.now pass.old pass.new (λ o seen. AreMembersText o seen calls' (option_map (λ text. text.items) array))) }
+    ensures begun { OnErr result (FromEachBookSeen registry.now pass.old pass.new (λ o seen. IsFront o seen (calls_view calls.items))) }
 {
     let mut replies = Vec::new(alloc);
     for call in calls {
-        answer_next(alloc, registry, prepared, pass, call, &mut replies)?;
+        answer_next(rt, alloc, registry, prepared, pass, call, &mut replies)?;
     }
     closed(replies)
 }
 
 /// Answers one more call, and adds its reply, where it has one.
-fn answer_next(
+fn answer_next<R: Wait>(
+    rt: &R,
     alloc: Global,
     registry: &Registry,
     prepared: &Prepared,
@@ -42,13 +45,13 @@ fn answer_next(
     call: Call,
     replies: &mut Vec<u8>,
 ) -> Result<(), AllocError>
-    requires pass { IsPass pass.old }
+    requires pass { IsPassOf registry.now pass.old }
     requires prepared { IsReadyFor registry.now prepared.now }
-    ensures pass { IsPass pass.new }
-    ensures told { OnOk result (FromEachBookSeen registry.now pass.old pass.new (λ o book. IsNextTold o book (call_view call) replies.old.items replies.new.items)) }
-    ensures begun { OnErr result (FromEachBookSeen registry.now pass.old pass.new (λ o book. IsFront o book (call_view call ∷ []))) }
+    ensures pass { IsPassOf registry.now pass.new }
+    ensures told { OnOk result (FromEachBookSeen registry.now pass.old pass.new (λ o seen. IsNextTold o seen (call_view call) replies.old.items replies.new.items)) }
+    ensures begun { OnErr result (FromEachBookSeen registry.now pass.old pass.new (λ o seen. IsFront o seen (call_view call ∷ []))) }
 {
-    let told = answered(alloc, registry, prepared, pass, call)?;
+    let told = answered(rt, alloc, registry, prepared, pass, call)?;
     match told {
         Some(reply) => add_reply(replies, &reply),
         None => Ok(()),

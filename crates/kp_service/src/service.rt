@@ -1,5 +1,5 @@
 // The service.
-ghost use Rattle.kp_registry.specs.Passes.{IsPass};
+ghost use Rattle.kp_registry.specs.Registries.{IsPassOf};
 ghost use Rattle.kp_service.specs.Answers.{IsAnswer, IsBegun};
 ghost use Rattle.kp_additions.specs.Served.{HasSeenAt};
 ghost use Rattle.kp_service.specs.Ready.{IsReadyFor};
@@ -13,9 +13,10 @@ use kp_registry::{Pass, Registry};
 use kp_requests::{Parsed, request_of};
 use kp_rpc::{Id, refusal_text};
 use std::alloc::{AllocError, Global};
+use std::sync::Wait;
 
-/// Answers frames over a book of modules: each call at the book that the pass has seen, which grows by the modules that
-/// calls add. What requests ask of the one signature of all modules is looked up once.
+/// Answers frames over a book of modules: each call at one book that begins with the one that the pass had seen; the
+/// modules that calls add stand in it as entries of the pass's own. What requests ask of the one signature of all modules is looked up once.
 #[derive(Drop)]
 pub struct Service {
     pub registry: Registry,
@@ -23,11 +24,11 @@ pub struct Service {
 }
 
 impl Service {
-    ghost use Rattle.std.specs.Prelude.{◌≤◌, [], IfOk};
+    ghost use Rattle.std.specs.Prelude.{◌≡◌, ◌≤◌, IfOk};
     ghost use Rattle.kp_book.specs.Books.{Opening};
     ghost use Rattle.kp_modules.specs.Openings.{IsTableOf};
-    ghost use Rattle.kp_registry.specs.Passes.{IsPass};
-    ghost use Rattle.kp_additions.specs.Served.{HasSeenAt};
+    ghost use Rattle.kp_registry.specs.Registries.{IsPassOf, seats_of};
+    ghost use Rattle.kp_additions.specs.Served.{HasSeenAt, nothing_seen};
     ghost use Rattle.kp_service.specs.Ready.{IsReadyFor};
 
     /// A service over a table's modules, with a pass that has seen no added ones.
@@ -37,8 +38,9 @@ impl Service {
         seats: usize,
     ) -> Result<(Service, Pass), AllocError>
         requires seats { (1 ≤ seats) × (seats ≤ 64) }
-        ensures pass { IfOk result (λ out. IsPass out.1 × IsReadyFor out.0.registry out.0.prepared) }
-        ensures seen { (o : Opening) → IsTableOf o table → IfOk result (λ out. HasSeenAt out.0.registry out.1 o []) }
+        ensures pass { IfOk result (λ out. IsPassOf out.0.registry out.1 × IsReadyFor out.0.registry out.0.prepared) }
+        ensures seen { (o : Opening) → IsTableOf o table → IfOk result (λ out. HasSeenAt out.0.registry out.1 o nothing_seen) }
+        ensures seats { IfOk result (λ out. seats_of out.0.registry ≡ seats) }
     {
         let prepared = Prepared::new(alloc, table.rule_set().signature.clone()?)?;
         let (registry, pass) = Registry::begin(alloc, table, seats)?;
@@ -49,24 +51,25 @@ impl Service {
 impl Answerer for Service {
     type Pass = Pass;
 
-    ghost has_seen = { λ s pass o book. HasSeenAt s.registry pass o book };
+    ghost has_seen = { λ s pass o seen. HasSeenAt s.registry pass o seen };
 
-    ghost is_pass = { λ s pass. IsPass pass × IsReadyFor s.registry s.prepared };
+    ghost is_pass = { λ s pass. IsPassOf s.registry pass × IsReadyFor s.registry s.prepared };
 
     ghost answers = { λ s o before frame reply after. IsAnswer o before frame reply after };
 
     ghost begins = { λ s o before frame after. IsBegun o before frame after };
 
-    fn answer(
+    fn answer<R: Wait>(
         &self,
+        rt: &R,
         alloc: Global,
         pass: &mut Pass,
         frame: &[u8],
     ) -> Result<Option<Vec<u8>>, AllocError> {
         match request_of(alloc, frame)? {
-            Parsed::Single(call) => answered(alloc, &self.registry, &self.prepared, pass, call),
+            Parsed::Single(call) => answered(rt, alloc, &self.registry, &self.prepared, pass, call),
             Parsed::Batch(calls) => {
-                answered_batch(alloc, &self.registry, &self.prepared, pass, calls)
+                answered_batch(rt, alloc, &self.registry, &self.prepared, pass, calls)
             }
             Parsed::Refused(refusal) => {
                 let line = refusal_text(alloc, &Id::Null, refusal)?;

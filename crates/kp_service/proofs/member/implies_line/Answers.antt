@@ -8,18 +8,18 @@ use Rattle.kp_service.proofs.Serving.{served_line, unserved_line, was_asked}
 use Rattle.kp_service.proofs.member.implies_line.Goals as goal
 
 pub returns-in-Some-clause-line : goal.returns-in-Some-clause-line
-returns-in-Some-clause-line c =
+returns-in-Some-clause-line g c =
     let id = id_view c.args.id.now in
     let asked = name_view c.args.module_name in
-    served_line c.implied_line.result c.args.registry.now c.args.pass.now asked _ c.in-Some.rules.value id (λ s. IsImpliedAs s id asked (reading_view c.args.antecedent) (reading_view c.args.consequent)) (ap (option_map (λ r. r.value)) c.in-Some.is) c.in_ok-rules.ensures.means
+    served_line c.implied_line.result c.args.registry.now c.rules_at.new.pass asked _ c.in-Some.rules.value id (λ s. IsImpliedAs s id asked (reading_view c.args.antecedent) (reading_view c.args.consequent)) (ap (option_map (λ r. r.value)) c.in-Some.is) c.in_ok-rules.ensures.means
     (λ s runs here over. c.implied_line.ensures s asked (ap (λ r. signature_view r.signature.value) c.deref.ensures ∙ runs.signature) here)
 
 pub returns-in-None-clause-line : goal.returns-in-None-clause-line
-returns-in-None-clause-line c =
+returns-in-None-clause-line g c =
     let id = id_view c.args.id.now in
     let asked = name_view c.args.module_name in
-    unserved_line c.no_module_line.result c.args.registry.now c.args.pass.now c.args.module_name _ id (λ s. IsImpliedAs s id asked (reading_view c.args.antecedent) (reading_view c.args.consequent)) (ap (option_map (λ r. r.value)) c.in-None.is)
+    unserved_line c.no_module_line.result c.args.registry.now c.rules_at.new.pass c.args.module_name _ id (λ s. IsImpliedAs s id asked (reading_view c.args.antecedent) (reading_view c.args.consequent)) (ap (option_map (λ r. r.value)) c.in-None.is)
     (was_asked c.in_ok-rules.field-0 c.args.module_name c.in-None.is c.in_ok-rules.ensures.named) c.in_ok-rules.ensures.means c.no_module_line.ensures
 
 pub no_module_line-requires : goal.no_module_line-requires
-no_module_line-requires c = record { named = was_asked c.in_ok-rules.field-0 c.args.module_name c.in-None.is c.in_ok-rules.ensures.named }
+no_module_line-requires g c = record { named = was_asked c.in_ok-rules.field-0 c.args.module_name c.in-None.is c.in_ok-rules.ensures.named }
