@@ -29,7 +29,7 @@ use Rattle.kp_requests.specs.Requests as requests
 use Rattle.kp_requests.specs.Requests.{Asked, asks, refused, Call, Frame, single}
 use Rattle.kp_requests.specs.Calls.{read_frame}
 use Rattle.kp_requests.specs.Frames.{IsJson, Asks, no_json, json}
-use Rattle.kp_book.specs.Books.{Opening, Registration}
+use Rattle.kp_book.specs.Books.{Opening, Registration, Seen}
 use Rattle.kp_client.specs.Links.{Exchange, ToldTheory, IsRightRun, IsRightExchange}
 use Rattle.kp_conn.specs.Conversations.{line_of}
 use Rattle.kp_execute.specs.Answers as runs
@@ -335,14 +335,14 @@ adds_by o book (asks (requests.implies left right name)) r h = absurd h
 adds_by o book (asks (requests.simplify state name)) r h = absurd h
 adds_by o book (asks (requests.add_module text named)) r h = (text, named, refl)
 
-member_right : (o : Opening) (t : Theory) (frame : List ℕ) (book after : List Registration) (call : Call) (reply : Option Data) → IsMainTheory o t → IsCallOf frame call → IsMember o book call reply after → IsRightExchange (told_theory o t) (record { frame = frame; reply = line_of (option_map compact_text reply) })
-member_right o t frame book _ call _ main c (told id d named right) = replied o t frame book call id call.asked d main c named refl right
-member_right o t frame book _ call _ main c (added id r named adds) =
-    let what = adds_by o book call.asked r adds in
+member_right : (o : Opening) (t : Theory) (frame : List ℕ) (before after : Seen) (call : Call) (reply : Option Data) → IsMainTheory o t → IsCallOf frame call → IsMember o before call reply after → IsRightExchange (told_theory o t) (record { frame = frame; reply = line_of (option_map compact_text reply) })
+member_right o t frame before _ call _ main c (told at id d grows named right) = replied o t frame at call id call.asked d main c named refl right
+member_right o t frame before _ call _ main c (added between id r grows named adds) =
+    let what = adds_by o between call.asked r adds in
     let a = call_asks frame call id (requests.add_module what.0 what.1) c named what.2 in
     with_nothing (told_theory o t) frame _ (added_told id r.id (asked_id frame c.tree id _ a.1 a.0))
-member_right o t frame book _ call _ main c (silent none nothing) = with_nothing (told_theory o t) frame [] nothing_told
-member_right o t frame book _ call _ main c (added_silently r none adds) = with_nothing (told_theory o t) frame [] nothing_told
+member_right o t frame before _ call _ main c (silent at grows none nothing) = with_nothing (told_theory o t) frame [] nothing_told
+member_right o t frame before _ call _ main c (added_silently between r grows none adds) = with_nothing (told_theory o t) frame [] nothing_told
 
 -- ---- any reply
 
@@ -353,7 +353,7 @@ batch_told (d ∷ ds) = record {
   no_implication = λ x h. array_tells implies (items_of (d ∷ ds)) (implied x) h;
 }
 
-answer_right : (o : Opening) (t : Theory) (frame : List ℕ) (before after : List Registration) (reply : Option (List ℕ)) → IsMainTheory o t → IsAnswer o before frame reply after →
+answer_right : (o : Opening) (t : Theory) (frame : List ℕ) (before after : Seen) (reply : Option (List ℕ)) → IsMainTheory o t → IsAnswer o before frame reply after →
     IsRightExchange (told_theory o t) (record { frame = frame; reply = line_of reply })
 answer_right o t frame before _ _ main (refusal e whole) = with_nothing (told_theory o t) frame _ (error_told id_null e)
 answer_right o t frame before _ _ main (alone call reply after is member) = member_right o t frame before after call reply main (call_of frame (single call) call is refl) member

@@ -12,7 +12,8 @@ use Rattle.kp_kore.proofs.ListLemmas.{all_append}
 use Rattle.kp_graph.specs.Tree.{ProofNode}
 use Rattle.kp_json.specs.Faults.{wrapped_reading}
 use Rattle.kp_json.specs.Written.{two_parts, wrapped_pattern}
-use Rattle.kp_book.specs.Books.{Opening, Registration, rules_in, rules_bound, first_of, meaning_in}
+use Rattle.kp_book.specs.Books.{Opening, Registration, Seen, rules_in, rules_bound, first_of, meaning_in}
+use Rattle.kp_additions.specs.Served.{nothing_seen}
 use Rattle.kp_methods.specs.ServedTheory.{ServedTheory}
 use Rattle.kp_rpc.specs.Request.{RequestId, id_text, id_number, id_null, id_tree, IsReadId, ExecuteOptions, ExecuteRequest, execute_method, implies_method}
 use Rattle.kp_rpc.specs.Readings.{read_id, read_options}
@@ -94,15 +95,15 @@ adds_nothing o (asks (implies antecedent consequent name)) main = tt
 adds_nothing o (asks (simplify state name)) main = tt
 adds_nothing o (asks (add_module text name_as_id)) main = absurd main
 
-member_at : (o : Opening) (book : List Registration) (axioms : List NumberedAxiom) (call : Call) (reply : Option Data) (after : List Registration) → rules_in o.modules o.main ≡ Some axioms → IsOfMain call.asked → IsMember o book call reply after → IsMember o [] call reply []
-member_at o book axioms call _ _ bound main (told id reply is right) = told id reply is (reply_to o book axioms id call.asked reply bound main right)
-member_at o book axioms call _ _ bound main (added id r is adds) = absurd (adds_none o book call.asked r main adds)
-member_at o book axioms call _ _ bound main (silent is nothing) = silent is (adds_nothing o call.asked main)
-member_at o book axioms call _ _ bound main (added_silently r is adds) = absurd (adds_none o book call.asked r main adds)
+member_at : (o : Opening) (before : Seen) (axioms : List NumberedAxiom) (call : Call) (reply : Option Data) (after : Seen) → rules_in o.modules o.main ≡ Some axioms → IsOfMain call.asked → IsMember o before call reply after → IsMember o nothing_seen call reply nothing_seen
+member_at o before axioms call _ _ bound main (told at id reply grows is right) = told [] id reply ([], refl) is (reply_to o at axioms id call.asked reply bound main right)
+member_at o before axioms call _ _ bound main (added between id r grows is adds) = absurd (adds_none o between call.asked r main adds)
+member_at o before axioms call _ _ bound main (silent at grows is nothing) = silent [] ([], refl) is (adds_nothing o call.asked main)
+member_at o before axioms call _ _ bound main (added_silently between r grows is adds) = absurd (adds_none o between call.asked r main adds)
 
-pub answer_at : (o : Opening) (frame : List ℕ) (before : List Registration) (reply : Option (List ℕ)) (after : List Registration) (axioms : List NumberedAxiom) → rules_in o.modules o.main ≡ Some axioms → ((f : Frame) → Asks frame f → IsOfMainFrame f) → IsAnswer o before frame reply after → IsAnswer o [] frame reply []
+pub answer_at : (o : Opening) (frame : List ℕ) (before : Seen) (reply : Option (List ℕ)) (after : Seen) (axioms : List NumberedAxiom) → rules_in o.modules o.main ≡ Some axioms → ((f : Frame) → Asks frame f → IsOfMainFrame f) → IsAnswer o before frame reply after → IsAnswer o nothing_seen frame reply nothing_seen
 answer_at o frame before _ _ axioms bound main (refusal e is) = refusal e is
-answer_at o frame before _ _ axioms bound main (alone call reply after is member) = alone call reply [] is (member_at o before axioms call reply after bound (main (single call) is) member)
+answer_at o frame before _ _ axioms bound main (alone call reply after is member) = alone call reply nothing_seen is (member_at o before axioms call reply after bound (main (single call) is) member)
 answer_at o frame before _ _ axioms bound main (together calls replies after is members) = absurd (main (batch calls) is)
 
 -- ---- the text of a question of the main module

@@ -10,7 +10,7 @@ use Rattle.kp_claims.specs.Claims.{LabelledClaim, counted}
 use Rattle.kp_claims.specs.Items.{item_view, items_view}
 use Rattle.kp_claims.specs.declared.item.ClaimItem.{ClaimItem}
 use Rattle.kp_client.specs.Answers.{IsProved}
-use Rattle.kp_client.specs.Links.{LinkState, Serves}
+use Rattle.kp_client.specs.Links.{Exchange, LinkState, Makes, Serves}
 use Rattle.kp_report.specs.Report.{IsReport, ReportLine}
 use Rattle.kp_client.specs.Rounds.{ProofOutcome, passed, failed_at}
 use Rattle.kp_client.specs.Sound.{IsStuckAt}
@@ -21,7 +21,7 @@ use Rattle.kp_book.specs.Books.{Opening}
 use Rattle.kp_modules.specs.Openings.{IsTableOf, opening_of}
 use Rattle.kp_modules.specs.declared.table.ModuleTable.{ModuleTable}
 use Rattle.kp_program.specs.Loaded.{IsLoaded}
-use Rattle.kp_program.specs.LocalTold.{IsTheoryOver, state_over}
+use Rattle.kp_program.specs.LocalTold.{IsLinkOver, IsTheoryOver, state_over}
 use Rattle.kp_program.specs.Proofs.{told_theory, IsRepliedBy, AreReported, IsLineFor, IsOutcome, Proved, proof_status}
 use Rattle.kp_program.specs.Words.{ProveWords}
 use Rattle.kp_program.specs.declared.trouble.Trouble.{Trouble}
@@ -41,15 +41,23 @@ pub theory_over : (names : Option Names) (name main : List ℕ) (l : IsLoaded na
 theory_over names name main l table opens = record { opens = opens; main = main_theory l.definition main l.setting table l.is_setting opens }
 
 -- what each exchange over a table meets makes it right
-pub serves_theory : (o : Opening) (t : Theory) (table : ModuleTable) → IsTheoryOver table o t → Serves (state_over table) (told_theory o t)
-serves_theory o t table is e meets = replied_is_right o t e is.main (meets o is.opens)
+pub serves_theory : (o : Opening) (t : Theory) (table : ModuleTable) → IsLinkOver table o t → Serves (state_over table) (told_theory o t)
+serves_theory o t table is e meets = replied_is_right o t e is.main (is.replied e meets)
 
-pub outcome_is : (o : Opening) (t : Theory) (table : ModuleTable) (depth : ℕ) (claim : ReachabilityClaim) (after : LinkState) (tree : List ProofNode) (end : ProofOutcome) → IsTheoryOver table o t →
+-- a link over the table of the opening
+pub link_over : (o : Opening) (t : Theory) (table : ModuleTable) → IsTheoryOver table o t → IsLinkOver table o t
+link_over o t table is = record { replied = λ e meets. meets o is.opens; main = is.main }
+
+-- a link is over the opening also behind exchanges
+pub link_stays : (o : Opening) (t : Theory) (before after : ModuleTable) (es : List Exchange) → Makes (state_over before) (state_over after) es → IsLinkOver before o t → IsLinkOver after o t
+link_stays o t before after es makes is = record { replied = λ e meets. is.replied e (makes.keeps e meets); main = is.main }
+
+pub outcome_is : (o : Opening) (t : Theory) (table : ModuleTable) (depth : ℕ) (claim : ReachabilityClaim) (after : LinkState) (tree : List ProofNode) (end : ProofOutcome) → IsLinkOver table o t →
     depth < 2 ^ 64 → IsProved (state_over table) after claim depth tree end → TreeSays t [] [] claim tree → (end ≡ passed → Holds t claim) → ((n : ℕ) → end ≡ failed_at n → IsStuckAt t claim tree n) → IsOutcome o t depth claim end
 outcome_is o t table depth claim after tree end is small p says holds stuck = record {
   exchanges = p.exchanges;
   replied = all_replied_at o is.main.axioms p.exchanges is.main.bound (proof_asks claim depth p.exchanges tree end small p.proves)
-      (all_into (state_over table).meets (IsRepliedBy o) (λ e meets. meets o is.opens) p.exchanges p.makes.met);
+      (all_into (state_over table).meets (IsRepliedBy o) is.replied p.exchanges p.makes.met);
   tree = tree;
   proves = p.proves;
   says = says;

@@ -1,18 +1,21 @@
 -- From the end of a connection to what is served.
-use Rattle.std.proofs.Common.{◌≡◌, ◌⊎◌, zero, suc, ◌<◌, ℕ, List, [], ◌∷◌, length, Option, Some, IfSome, subst, inl, inr, arith}
+use Rattle.std.proofs.Common.{◌≡◌, ◌⊎◌, zero, suc, ◌<◌, ℕ, List, [], ◌∷◌, length, Option, Some, IfSome, subst, sym, inl, inr, arith}
 use Rattle.kp_io.specs.Outside.{Names}
-use Rattle.kp_book.specs.Books.{Opening, Registration}
+use Rattle.kp_book.specs.Books.{Opening, Seen}
 use Rattle.kp_modules.specs.Openings.{opening_of}
 use Rattle.kp_modules.specs.declared.table.ModuleTable.{ModuleTable}
 use Rattle.kp_registry.specs.declared.book.Registry.{Registry}
-use Rattle.kp_registry.specs.declared.seen.Pass.{Pass}
-use Rattle.kp_additions.specs.Served.{HasSeenAt}
+use Rattle.kp_registry.specs.Registries.{IsPassOf, seats_of}
+use Rattle.kp_history.specs.Passes.{seen}
+use Rattle.kp_history.specs.Views.{times}
+use Rattle.kp_additions.specs.Served.{HasSeenAt, Pass, nothing_seen}
+use Rattle.kp_additions.proofs.Later.{long_as}
 use Rattle.kp_conn.specs.Conversations.{IsBroken, IsServed, Sees, ended, truncated, too_long, spent, not_read, not_written, out_of_memory}
 use Rattle.kp_conn.specs.declared.served.Served.{Served}
 use Rattle.kp_conn.specs.declared.served.Served.TheVariants as served
 use Rattle.kp_service.specs.Answers.{IsAnswer, IsBegun}
 use Rattle.kp_program.specs.Inputs.{IsTableOf}
-use Rattle.kp_program.specs.Served.{BreaksFile, BreaksOff, IsWhole, OverFile, ServesInput}
+use Rattle.kp_program.specs.Served.{AreAllOwn, BreaksFile, BreaksOff, IsWhole, OverFile, ServesInput}
 use Rattle.kp_program.specs.Troubles.{IsLate}
 use Rattle.kp_program.specs.declared.trouble.Trouble.{Trouble}
 use Rattle.kp_program.specs.declared.trouble.Trouble.TheVariants as trouble
@@ -35,14 +38,20 @@ not_both end whole (inr (inr e)) = subst IsWhole e whole
 
 -- what a pass of a registry sees behind an empty book
 abbrev pub SeesServed : Registry → Pass → Opening → Option (List ℕ) → Option (List ℕ) → Option (List ℕ) → Option (List ℕ) → Served → Type 0
-SeesServed registry pass o left left_after held held_after end = Sees (HasSeenAt registry pass o) [] (λ after. IsServed (IsAnswer o) (IsBegun o) [] left left_after held held_after after end)
+SeesServed registry pass o left left_after held held_after end = Sees (HasSeenAt registry pass o) nothing_seen (λ after. IsServed (IsAnswer o) (IsBegun o) nothing_seen left left_after held held_after after end)
 
-pub serves_input : (registry : Registry) (pass : Pass) (o : Opening) (left left_after held held_after : Option (List ℕ)) (end : Served) → IsWhole end →
+-- where one pass is all that there may be, each entry that it has seen is its own
+all_own : (registry : Registry) (pass : Pass) (o : Opening) (s : Seen) → IsPassOf registry pass → seats_of registry ≡ 1 → HasSeenAt registry pass o s → AreAllOwn s
+all_own registry pass o s is one has x some within =
+    let long : length (seen pass) ≡ length s.book = long_as o.signature s.book (seen pass) has.seen in
+    subst (λ l. times x l ≡ 1) (sym has.own) (is.pass.all (omega (arith, is.pass.few, one)) x some (omega (arith, within, long)))
+
+pub serves_input : (registry : Registry) (pass : Pass) (o : Opening) (left left_after held held_after : Option (List ℕ)) (end : Served) → IsPassOf registry pass → seats_of registry ≡ 1 → IsWhole end →
     SeesServed registry pass o left left_after held held_after end → ServesInput o left left_after held held_after
-serves_input registry pass o left left_after held held_after end whole s = record { end = end; whole = whole; book = s.after; legal = s.seen.legal; served = s.holds }
+serves_input registry pass o left left_after held held_after end is one whole s = record { end = end; whole = whole; seen = s.after; legal = s.seen.legal; all_own = all_own registry pass o s.after is one s.seen; served = s.holds }
 
-is_broken : (o : Opening) (left left_after held held_after : Option (List ℕ)) (book : List Registration) (end : Served) → IsCut end →
-    IsServed (IsAnswer o) (IsBegun o) [] left left_after held held_after book end → IsBroken (IsAnswer o) (IsBegun o) [] left left_after held held_after book
+is_broken : (o : Opening) (left left_after held held_after : Option (List ℕ)) (book : Seen) (end : Served) → IsCut end →
+    IsServed (IsAnswer o) (IsBegun o) nothing_seen left left_after held held_after book end → IsBroken (IsAnswer o) (IsBegun o) nothing_seen left left_after held held_after book
 is_broken o left left_after held held_after book end cut (ended n h) = absurd (not_both end tt cut)
 is_broken o left left_after held held_after book end cut (truncated h) = absurd (not_both end tt cut)
 is_broken o left left_after held held_after book end cut (too_long h) = absurd (not_both end tt cut)
@@ -51,10 +60,10 @@ is_broken o left left_after held held_after book end cut (not_read b) = b
 is_broken o left left_after held held_after book end cut (not_written b) = b
 is_broken o left left_after held held_after book end cut (out_of_memory b) = b
 
-pub breaks_off : (registry : Registry) (pass : Pass) (o : Opening) (left left_after held held_after : Option (List ℕ)) (end : Served) → IsCut end →
+pub breaks_off : (registry : Registry) (pass : Pass) (o : Opening) (left left_after held held_after : Option (List ℕ)) (end : Served) → IsPassOf registry pass → seats_of registry ≡ 1 → IsCut end →
     SeesServed registry pass o left left_after held held_after end → BreaksOff o left left_after held held_after
-breaks_off registry pass o left left_after held held_after end cut s =
-    record { book = s.after; legal = s.seen.legal; broken = is_broken o left left_after held held_after s.after end cut s.holds }
+breaks_off registry pass o left left_after held held_after end is one cut s =
+    record { seen = s.after; legal = s.seen.legal; all_own = all_own registry pass o s.after is one s.seen; broken = is_broken o left left_after held held_after s.after end cut s.holds }
 
 -- a fault of the connection is one of the input or of the output
 pub late_end : (end : Served) (a b : Type 0) (t : Trouble) → (end ≡ served.ReadFault → a) → (end ≡ served.WriteFault → b) → IsLate ((end ≡ served.ReadFault) ⊎ (end ≡ served.WriteFault)) t → IsLate (a ⊎ b) t

@@ -7,9 +7,10 @@ use Rattle.kp_kore.specs.Syntax.{Text, KoreModule}
 use Rattle.kp_kore.specs.Theory.{Theory, IsTheoryOfAxioms, NumberedAxiom}
 use Rattle.kp_io.specs.Outside.{Names, load_limit}
 use Rattle.kp_conn.specs.Conversations.{line_of}
-use Rattle.kp_book.specs.Books.{Opening, Registration, rules_in}
+use Rattle.kp_book.specs.Books.{Opening, Seen, rules_in}
 use Rattle.kp_modules.specs.Openings.{opening_of}
 use Rattle.kp_registry.specs.Legal.{IsLegal}
+use Rattle.kp_additions.specs.Served.{nothing_seen}
 use Rattle.kp_service.specs.Answers.{IsAnswer}
 use Rattle.kp_kore.specs.Claims.{ReachabilityClaim, Holds}
 use Rattle.kp_graph.specs.Tree.{ProofNode}
@@ -39,17 +40,17 @@ told_theory o t = record { theory = t; main = o.main }
 -- a frame, and the line with which the service over this opening replies to it at some book that was seen; nothing, where it
 -- doesn't reply
 pub record IsRepliedBy (o : Opening) (e : Exchange) : Type 0 where
-  pub before : List Registration
-  pub legal : IsLegal o before
+  pub before : Seen
+  pub legal : IsLegal o before.book
   pub reply : Option (List ℕ)
-  pub after : List Registration
+  pub after : Seen
   pub answer : IsAnswer o before e.frame reply after
   pub line : e.reply ≡ line_of reply
 
 -- the same before any module is added, and none is: of a question that names no module
 pub record IsRepliedAtOpening (o : Opening) (e : Exchange) : Type 0 where
   pub reply : Option (List ℕ)
-  pub answer : IsAnswer o [] e.frame reply []
+  pub answer : IsAnswer o nothing_seen e.frame reply nothing_seen
   pub line : e.reply ≡ line_of reply
 
 -- ---- proofs

@@ -11,15 +11,17 @@ use kp_registry::Pass;
 use kp_service::Service;
 use std::alloc::{AllocError, Global};
 use std::marker::Model;
+use std::sync::Wait;
 
 /// A link to a service in the same process, with a pass of its own. It never fails. It is seen as the service's table.
 #[derive(Drop)]
-pub struct LocalLink<'a> {
+pub struct LocalLink<'a, R: Wait> {
+    rt: &'a R,
     service: &'a Service,
     pass: Pass,
 }
 
-impl<'a> Model for LocalLink<'a> {
+impl<'a, R: Wait> Model for LocalLink<'a, R> {
     ghost use Rattle.kp_modules.specs.contracts.table.ModuleTable.{the_row};
     ghost use Rattle.kp_modules.specs.declared.table.ModuleTable.{ModuleTable};
     ghost use Rattle.kp_program.specs.LocalTold.{IsPassOver, table_of};
@@ -33,14 +35,16 @@ impl<'a> Model for LocalLink<'a> {
     ghost invariant = { λ l. IsPassOver l.service.now l.pass };
 }
 
-impl<'a> LocalLink<'a> {
-    /// A link to a service, whose pass has seen no added modules.
-    pub fn new(alloc: Global, service: &'a Service) -> Result<LocalLink<'a>, AllocError>
+impl<'a, R: Wait> LocalLink<'a, R> {
+    ghost use Rattle.kp_registry.specs.Registries.{IsPassOf};
+
+    /// A link to a service, with this pass of it.
+    pub fn new(rt: &'a R, service: &'a Service, pass: Pass) -> LocalLink<'a, R>
+        requires pass { IsPassOf service.now.registry pass }
         requires ready { IsReadyService service.now }
-        ensures { IfOk result (λ l. l ≡ table_of service.now) }
+        ensures { result ≡ table_of service.now }
     {
-        let pass = Pass::empty(alloc)?;
-        Ok(LocalLink { service, pass })
+        LocalLink { rt, service, pass }
     }
 }
 
@@ -54,7 +58,8 @@ fn line_with(text: Vec<u8>) -> Result<Vec<u8>, AllocError>
 }
 
 /// The text with which a service answers a frame.
-fn text_to(
+fn text_to<R: Wait>(
+    rt: &R,
     alloc: Global,
     service: &Service,
     pass: &mut Pass,
@@ -64,11 +69,12 @@ fn text_to(
     ensures pass { IsPassOver service.now pass.new }
     ensures answered { (o : Opening) → IsTableOf o (table_of service.now) → IfOk result (λ reply. IsAnsweredBy o frame.now (option_map (λ text. text.items) reply)) }
 {
-    service.answer(alloc, pass, frame)
+    service.answer(rt, alloc, pass, frame)
 }
 
 /// The line that replies to a frame: an empty one where there is no reply.
-fn line_to(
+fn line_to<R: Wait>(
+    rt: &R,
     alloc: Global,
     service: &Service,
     pass: &mut Pass,
@@ -78,13 +84,13 @@ fn line_to(
     ensures pass { IsPassOver service.now pass.new }
     ensures replied { (o : Opening) → IsTableOf o (table_of service.now) → IfOk result (λ line. IsRepliedBy o (record { frame = frame.now; reply = line.items })) }
 {
-    match text_to(alloc, service, pass, frame)? {
+    match text_to(rt, alloc, service, pass, frame)? {
         Some(text) => line_with(text),
         None => Ok(Vec::new(alloc)),
     }
 }
 
-impl<'a> Link for LocalLink<'a> {
+impl<'a, R: Wait> Link for LocalLink<'a, R> {
     ghost told = { λ l. state_over l };
 
     fn faults(&self) -> u64 {
@@ -92,6 +98,6 @@ impl<'a> Link for LocalLink<'a> {
     }
 
     fn ask(&mut self, alloc: Global, frame: &[u8]) -> Result<Vec<u8>, LinkError> {
-        Ok(line_to(alloc, self.service, &mut self.pass, frame)?)
+        Ok(line_to(self.rt, alloc, self.service, &mut self.pass, frame)?)
     }
 }

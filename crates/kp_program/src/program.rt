@@ -20,12 +20,14 @@ use kp_io::{Shelf, Sink, Source};
 use kp_modules::ModuleTable;
 use kp_service::Service;
 use std::alloc::Global;
+use std::sync::Wait;
 
 /// Does all that the program does, and answers its status: 0 where the input was served, or where each claim passed, 1
 /// where a claim failed, 2 where none failed and some are pending or refused, 3 where the words spell no
 /// command, 4 where a file has a fault, 5 where a file isn't there, 6 where a count of faults of the shelf, the input
 /// or the output rose, 7 where memory ran out. From status 3 on `err` gets a line that says why.
-pub fn run<H: Shelf, I: Source, O: Sink, E: Sink>(
+pub fn run<R: Wait, H: Shelf, I: Source, O: Sink, E: Sink>(
+    rt: &R,
     alloc: Global,
     words: &[String],
     shelf: &mut H,
@@ -56,7 +58,7 @@ pub fn run<H: Shelf, I: Source, O: Sink, E: Sink>(
 {
     match command_of(words) {
         None => told(err, "kprove: usage\n", 3),
-        Some(command) => match obey(alloc, &command, shelf, input, out) {
+        Some(command) => match obey(rt, alloc, &command, shelf, input, out) {
             Ok(status) => status,
             Err(trouble) => ended(alloc, err, &trouble),
         },
@@ -64,7 +66,8 @@ pub fn run<H: Shelf, I: Source, O: Sink, E: Sink>(
 }
 
 /// Does what a command says.
-fn obey<H: Shelf, I: Source, O: Sink>(
+fn obey<R: Wait, H: Shelf, I: Source, O: Sink>(
+    rt: &R,
     alloc: Global,
     command: &Command,
     shelf: &mut H,
@@ -85,16 +88,17 @@ fn obey<H: Shelf, I: Source, O: Sink>(
     ensures out_count { O.fault_count out.old ≤ O.fault_count out.new }
 {
     match command {
-        Command::Stdio(stdio) => match serve_input(alloc, stdio, shelf, input, out) {
+        Command::Stdio(stdio) => match serve_input(rt, alloc, stdio, shelf, input, out) {
             Ok(()) => Ok(0),
             Err(trouble) => Err(trouble),
         },
-        Command::Prove(prove) => prove_file(alloc, prove, shelf, out),
+        Command::Prove(prove) => prove_file(rt, alloc, prove, shelf, out),
     }
 }
 
 /// Serves the input over the modules of a definition.
-fn serve_input<H: Shelf, I: Source, O: Sink>(
+fn serve_input<R: Wait, H: Shelf, I: Source, O: Sink>(
+    rt: &R,
     alloc: Global,
     command: &Stdio,
     shelf: &mut H,
@@ -115,13 +119,14 @@ fn serve_input<H: Shelf, I: Source, O: Sink>(
     ensures out_count { O.fault_count out.old ≤ O.fault_count out.new }
 {
     match load_table(alloc, shelf, command.definition, command.module_name) {
-        Ok(table) => serve_table(alloc, table, input, out),
+        Ok(table) => serve_table(rt, alloc, table, input, out),
         Err(trouble) => Err(trouble),
     }
 }
 
 /// Serves the input over the modules of a table, and those that it adds.
-fn serve_table<I: Source, O: Sink>(
+fn serve_table<R: Wait, I: Source, O: Sink>(
+    rt: &R,
     alloc: Global,
     table: ModuleTable,
     input: &mut I,
@@ -136,7 +141,7 @@ fn serve_table<I: Source, O: Sink>(
 {
     let (service, pass) = Service::begin(alloc, table, 1)?;
     let mut seen = pass;
-    outcome(serve(alloc, &service, &mut seen, input, out))
+    outcome(serve(rt, alloc, &service, &mut seen, input, out))
 }
 
 /// What the end of a connection comes to.

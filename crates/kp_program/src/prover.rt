@@ -1,5 +1,5 @@
 // The proofs of a claims' file, and their report.
-ghost use Rattle.std.specs.Prelude.{◌≡◌, ◌<◌, ◌≤◌, ◌⊎◌, ℕ, IfErr, IfOk, List, OnErr, Some, length, map, slice_get};
+ghost use Rattle.std.specs.Prelude.{◌≡◌, ◌<◌, ◌≤◌, ◌⊎◌, ℕ, IfErr, IfOk, List, OnErr, OnOk, Some, length, map, slice_get};
 ghost use Rattle.std.specs.List.{AllZip, list_all, list_any};
 ghost use Rattle.std.specs.Io.KnownBytes.{Appends};
 ghost use Rattle.kp_kore.specs.Theory.{Theory};
@@ -16,7 +16,7 @@ ghost use Rattle.kp_program.specs.Commands.{prove_view};
 ghost use Rattle.kp_methods.specs.ServedTheory.{IsServedTheoryOf};
 ghost use Rattle.kp_program.specs.Loaded.{IsLoaded};
 ghost use Rattle.kp_program.specs.Does.{MayProve};
-ghost use Rattle.kp_program.specs.LocalTold.{IsReadyService, IsTheoryOver, table_of};
+ghost use Rattle.kp_program.specs.LocalTold.{IsLinkOver, IsTheoryOver};
 ghost use Rattle.kp_program.specs.Proofs.{AreReported, IsLineFor, Proved, has_failed, has_passed, proof_status};
 ghost use Rattle.kp_program.specs.Served.{GainsFront};
 ghost use Rattle.kp_program.specs.Statuses.{exit_status as trouble_status};
@@ -36,10 +36,12 @@ use kp_modules::ModuleTable;
 use kp_report::{Line, report_text};
 use kp_service::Service;
 use std::alloc::{AllocError, Global};
+use std::sync::Wait;
 
 /// Proves the claims of a file over a definition's main module, and writes their report. The status: 0 where each
 /// passed, 1 where some failed, else 2.
-pub fn prove_file<H: Shelf, O: Sink>(
+pub fn prove_file<R: Wait, H: Shelf, O: Sink>(
+    rt: &R,
     alloc: Global,
     command: &Prove,
     shelf: &mut H,
@@ -55,13 +57,14 @@ pub fn prove_file<H: Shelf, O: Sink>(
     ensures out_count { O.fault_count out.old ≤ O.fault_count out.new }
 {
     match load_table(alloc, shelf, command.definition, command.module_name) {
-        Ok(table) => prove_over(alloc, command, table, shelf, out),
+        Ok(table) => prove_over(rt, alloc, command, table, shelf, out),
         Err(trouble) => Err(trouble),
     }
 }
 
 /// Proves the claims of a file over a table, and writes their report.
-fn prove_over<H: Shelf, O: Sink>(
+fn prove_over<R: Wait, H: Shelf, O: Sink>(
+    rt: &R,
     alloc: Global,
     command: &Prove,
     table: ModuleTable,
@@ -81,13 +84,14 @@ fn prove_over<H: Shelf, O: Sink>(
     ensures out_count { O.fault_count out.old ≤ O.fault_count out.new }
 {
     match load_claims(alloc, shelf, command.claims, &table) {
-        Ok(claims) => report_claims(alloc, table, &claims, command.max_depth, out),
+        Ok(claims) => report_claims(rt, alloc, table, &claims, command.max_depth, out),
         Err(trouble) => Err(trouble),
     }
 }
 
 /// Proves claims, and writes their report.
-fn report_claims<O: Sink>(
+fn report_claims<R: Wait, O: Sink>(
+    rt: &R,
     alloc: Global,
     table: ModuleTable,
     claims: &[ClaimItem],
@@ -99,7 +103,7 @@ fn report_claims<O: Sink>(
     ensures front { (o : Opening) (t : Theory) → let claims' = items_view claims.now in IsTheoryOver table o t → AreGround claims' → OnErr result ((O.held out.new ≡ O.held out.old) ⊎ ((status : ℕ) × AreReported o t max_depth claims' (GainsFront (O.held out.old) (O.held out.new)) status)) }
     ensures count { O.fault_count out.old ≤ O.fault_count out.new }
 {
-    let lines = lines_over(alloc, table, claims, max_depth)?;
+    let lines = lines_over(rt, alloc, table, claims, max_depth)?;
     let report = report_text(alloc, &lines)?;
     let status = status_of(&lines);
     match put_line(out, &report) {
@@ -109,7 +113,8 @@ fn report_claims<O: Sink>(
 }
 
 /// The lines of claims, in order, over the service of a table.
-fn lines_over(
+fn lines_over<R: Wait>(
+    rt: &R,
     alloc: Global,
     table: ModuleTable,
     claims: &[ClaimItem],
@@ -117,44 +122,43 @@ fn lines_over(
 ) -> Result<Vec<Line>, AllocError>
     ensures { (o : Opening) (t : Theory) → let claims' = items_view claims.now in IsTheoryOver table o t → AreGround claims' → IfOk result (λ lines. AllZip (IsLineFor o t max_depth) claims' (map line_view lines.items)) }
 {
-    let (service, _pass) = Service::begin(alloc, table, 1)?;
-    prove_all(alloc, &service, claims, max_depth)
+    let (service, pass) = Service::begin(alloc, table, 1)?;
+    let mut link = LocalLink::new(rt, &service, pass);
+    prove_all(alloc, &mut link, claims, max_depth)
 }
 
 /// The lines of claims, in order.
-fn prove_all(
+fn prove_all<R: Wait>(
     alloc: Global,
-    service: &Service,
+    link: &mut LocalLink<'_, R>,
     claims: &[ClaimItem],
     max_depth: u64,
 ) -> Result<Vec<Line>, AllocError>
-    requires ready { IsReadyService service.now }
-    ensures { (o : Opening) (t : Theory) → let claims' = items_view claims.now in IsTheoryOver (table_of service.now) o t → AreGround claims' → IfOk result (λ lines. AllZip (IsLineFor o t max_depth) claims' (map line_view lines.items)) }
+    ensures { (o : Opening) (t : Theory) → let claims' = items_view claims.now in IsLinkOver link.old o t → AreGround claims' → IfOk result (λ lines. AllZip (IsLineFor o t max_depth) claims' (map line_view lines.items)) }
 {
     let mut lines = Vec::new(alloc);
     for place in 0..claims.len() {
-        lines.push(prove_at(alloc, service, claims, place, max_depth)?)?;
+        lines.push(prove_at(alloc, link, claims, place, max_depth)?)?;
     }
     Ok(lines)
 }
 
 /// The line of the claim at a place, from 0. A link in the same process doesn't fail: that it did would be told as want
 /// of memory.
-fn prove_at(
+fn prove_at<R: Wait>(
     alloc: Global,
-    service: &Service,
+    link: &mut LocalLink<'_, R>,
     claims: &[ClaimItem],
     place: usize,
     max_depth: u64,
 ) -> Result<Line, AllocError>
-    requires ready { IsReadyService service.now }
     requires place { place < length claims.now }
-    ensures { (o : Opening) (t : Theory) (c : LabelledClaim) → let claims' = items_view claims.now in IsTheoryOver (table_of service.now) o t → slice_get claims' place ≡ Some c → IsGroundClaim c → IfOk result (λ line. IsLineFor o t max_depth c (line_view line)) }
+    ensures line { (o : Opening) (t : Theory) (c : LabelledClaim) → let claims' = items_view claims.now in IsLinkOver link.old o t → slice_get claims' place ≡ Some c → IsGroundClaim c → IfOk result (λ line. IsLineFor o t max_depth c (line_view line)) }
+    ensures link { (o : Opening) (t : Theory) → IsLinkOver link.old o t → OnOk result (IsLinkOver link.new o t) }
 {
     let label = claims[place].label.clone()?;
     let options = ProveOptions { max_depth };
-    let mut link = LocalLink::new(alloc, service)?;
-    match prove(alloc, &mut link, claims, place, &options) {
+    match prove(alloc, link, claims, place, &options) {
         Ok((outcome, _tree)) => Ok(Line {
             label,
             result: outcome,

@@ -2,6 +2,7 @@ use crate::definitions::Asked as Definition;
 use crate::replies::is_replied;
 use crate::running::joined;
 use std::alloc::{AllocError, Global};
+use std::sync::Wait;
 use std::test::Fail;
 
 /// A module with a rule, as its text stands in a request.
@@ -81,17 +82,17 @@ fn replied(alloc: Global, replies: &[&str], next: &str) -> Result<String, AllocE
 }
 
 /// Whether the modules of a row get its replies, and its number is that of the next entry.
-fn is_row(alloc: Global, row: &Row) -> Result<bool, AllocError> {
+fn is_row<R: Wait>(rt: &R, alloc: Global, row: &Row) -> Result<bool, AllocError> {
     let (_said, all, replies, next) = *row;
     let input = asked(alloc, all)?;
     let lines = replied(alloc, replies, next)?;
-    Ok(is_replied(alloc, Definition::Small, &input, &lines))
+    Ok(is_replied(rt, alloc, Definition::Small, &input, &lines))
 }
 
 /// Refuses the first row of which something else is told.
-pub(crate) fn are_added(alloc: Global, rows: &[Row]) -> Result<(), Fail> {
+pub(crate) fn are_added<R: Wait>(rt: &R, alloc: Global, rows: &[Row]) -> Result<(), Fail> {
     for row in rows {
-        match is_row(alloc, row) {
+        match is_row(rt, alloc, row) {
             Ok(true) => {}
             _ => return Err(Fail::new(row.0)),
         }
@@ -197,7 +198,7 @@ static FIRST: [Row; 10] = [
 
 #[test]
 fn texts_are_refused(rt: HostRuntime) -> Result<(), Fail> {
-    are_added(rt.alloc(), &FIRST)
+    are_added(&rt, rt.alloc(), &FIRST)
 }
 
 /// Texts that are refused or added behind `NEXT`, with its own name or without it.
@@ -344,7 +345,7 @@ static SECOND: [Row; 14] = [
 
 #[test]
 fn a_name_is_bound_to_one_text(rt: HostRuntime) -> Result<(), Fail> {
-    are_added(rt.alloc(), &SECOND)
+    are_added(&rt, rt.alloc(), &SECOND)
 }
 
 /// The notification that adds a module with its own name, up to its text.
@@ -380,7 +381,12 @@ fn crowd(alloc: Global, are_numbered: bool) -> Result<String, AllocError> {
 }
 
 /// Whether the last entry is taken, nothing is taken beyond, and another text of a bound name is told by its entry.
-fn is_full(alloc: Global, are_numbered: bool, entry: &str) -> Result<bool, AllocError> {
+fn is_full<R: Wait>(
+    rt: &R,
+    alloc: Global,
+    are_numbered: bool,
+    entry: &str,
+) -> Result<bool, AllocError> {
     let input = crowd(alloc, are_numbered)?;
     let lines = joined(
         alloc,
@@ -393,11 +399,11 @@ fn is_full(alloc: Global, are_numbered: bool, entry: &str) -> Result<bool, Alloc
             r#","name":"NEXT"},"message":"Duplicate module"},"id":1,"jsonrpc":"2.0"}"#,
         ],
     )?;
-    Ok(is_replied(alloc, Definition::Small, &input, &lines))
+    Ok(is_replied(rt, alloc, Definition::Small, &input, &lines))
 }
 
 #[test]
 fn a_book_has_4096_entries(rt: HostRuntime) {
-    assert_eq!(rt; is_full(rt.alloc(), false, "1"), Ok(true));
-    assert_eq!(rt; is_full(rt.alloc(), true, "4096"), Ok(true));
+    assert_eq!(rt; is_full(&rt, rt.alloc(), false, "1"), Ok(true));
+    assert_eq!(rt; is_full(&rt, rt.alloc(), true, "4096"), Ok(true));
 }

@@ -38,5 +38,5 @@ static ROWS: [Row; 6] = [
 
 #[test]
 fn one_rule_alone_makes_a_step(rt: HostRuntime) -> Result<(), Fail> {
-    are_replied(rt.alloc(), Asked::Toys, &ROWS)
+    are_replied(&rt, rt.alloc(), Asked::Toys, &ROWS)
 }

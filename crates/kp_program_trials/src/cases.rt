@@ -28,5 +28,5 @@ static ROWS: [Row; 4] = [
 
 #[test]
 fn cases_are_told_apart(rt: HostRuntime) -> Result<(), Fail> {
-    are_replied(rt.alloc(), Asked::Toys, &ROWS)
+    are_replied(&rt, rt.alloc(), Asked::Toys, &ROWS)
 }

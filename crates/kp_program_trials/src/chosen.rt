@@ -33,5 +33,5 @@ static ROWS: [Row; 5] = [
 
 #[test]
 fn rules_are_chosen_by_priority(rt: HostRuntime) -> Result<(), Fail> {
-    are_replied(rt.alloc(), Asked::Choices, &ROWS)
+    are_replied(&rt, rt.alloc(), Asked::Choices, &ROWS)
 }

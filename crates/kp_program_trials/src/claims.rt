@@ -200,6 +200,7 @@ static ROWS: [(&str, &str, &[&str], &str); 16] = [
 fn claims_are_told(rt: HostRuntime) -> Result<(), Fail> {
     for (definition, claims, more, wanted) in &ROWS {
         if !is_told(
+            &rt,
             rt.alloc(),
             (&PROVE, more),
             (definition.as_bytes(), *claims),

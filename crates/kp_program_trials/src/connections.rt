@@ -2,6 +2,7 @@ use crate::definitions::Asked;
 use crate::replies::{Row, are_replied, is_replied};
 use crate::running::add_often;
 use std::alloc::{AllocError, Global};
+use std::sync::Wait;
 use std::test::Fail;
 
 /// Batches, calls without a line feed between them, malformed inputs, and modules that are added and refused.
@@ -110,7 +111,7 @@ static ROWS: [Row; 19] = [
 
 #[test]
 fn inputs_are_answered(rt: HostRuntime) -> Result<(), Fail> {
-    are_replied(rt.alloc(), Asked::Small, &ROWS)
+    are_replied(&rt, rt.alloc(), Asked::Small, &ROWS)
 }
 
 /// Brackets that open and close so often.
@@ -134,9 +135,9 @@ static DEPTHS: [(u64, &str); 2] = [
 ];
 
 /// Whether an input of so many brackets gets this line.
-fn is_nested(alloc: Global, depth: u64, line: &str) -> bool {
+fn is_nested<R: Wait>(rt: &R, alloc: Global, depth: u64, line: &str) -> bool {
     match brackets(alloc, depth) {
-        Ok(input) => is_replied(alloc, Asked::Small, &input, line),
+        Ok(input) => is_replied(rt, alloc, Asked::Small, &input, line),
         Err(_) => false,
     }
 }
@@ -144,7 +145,7 @@ fn is_nested(alloc: Global, depth: u64, line: &str) -> bool {
 #[test]
 fn arrays_nest_127_deep(rt: HostRuntime) -> Result<(), Fail> {
     for (depth, line) in &DEPTHS {
-        if !is_nested(rt.alloc(), *depth, line) {
+        if !is_nested(&rt, rt.alloc(), *depth, line) {
             return Err(Fail::new(*depth));
         }
     }

@@ -43,7 +43,7 @@ static LABELS: [Row; 3] = [
 
 #[test]
 fn ids_go_by_all_labels_of_a_rule_set(rt: HostRuntime) -> Result<(), Fail> {
-    are_replied(rt.alloc(), Asked::Small, &LABELS)
+    are_replied(&rt, rt.alloc(), Asked::Small, &LABELS)
 }
 
 /// Modules that reach main's rule by several ways: next states are told in the order of the rules.
@@ -78,7 +78,7 @@ static DIAMONDS: [Row; 2] = [
 
 #[test]
 fn each_rule_of_a_diamond_comes_once(rt: HostRuntime) -> Result<(), Fail> {
-    are_replied(rt.alloc(), Asked::Fan, &DIAMONDS)
+    are_replied(&rt, rt.alloc(), Asked::Fan, &DIAMONDS)
 }
 
 /// Modules that are taken or refused for a sentence, and the number of the next entry.
@@ -158,5 +158,5 @@ static FAULTS: [additions::Row; 7] = [
 
 #[test]
 fn faults_of_added_modules(rt: HostRuntime) -> Result<(), Fail> {
-    are_added(rt.alloc(), &FAULTS)
+    are_added(&rt, rt.alloc(), &FAULTS)
 }

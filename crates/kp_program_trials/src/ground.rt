@@ -43,5 +43,5 @@ static ROWS: [Row; 7] = [
 
 #[test]
 fn ground_states_are_executed(rt: HostRuntime) -> Result<(), Fail> {
-    are_replied(rt.alloc(), Asked::Toys, &ROWS)
+    are_replied(&rt, rt.alloc(), Asked::Toys, &ROWS)
 }

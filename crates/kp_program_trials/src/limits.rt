@@ -2,6 +2,7 @@ use crate::definitions::Asked;
 use crate::replies::is_replied;
 use crate::running::add_often;
 use std::alloc::{AllocError, Global};
+use std::sync::Wait;
 use std::test::Fail;
 
 /// `X >= n`, up to the number and behind it.
@@ -104,12 +105,12 @@ type Row = (
 );
 
 /// Whether a row's request with its part gets its reply.
-fn is_row(alloc: Global, row: &Row) -> Result<bool, AllocError> {
+fn is_row<R: Wait>(rt: &R, alloc: Global, row: &Row) -> Result<bool, AllocError> {
     let (_said, part, request, reply) = *row;
     let part = text_of(alloc, part)?;
     let request = joined(alloc, request.0, &part, request.1)?;
     let reply = joined(alloc, reply.0, &part, reply.1)?;
-    Ok(is_replied(alloc, Asked::Toys, &request, &reply))
+    Ok(is_replied(rt, alloc, Asked::Toys, &request, &reply))
 }
 
 /// Too many literals, too large a product of disjunctions, too deep a term.
@@ -169,7 +170,7 @@ static ROWS: [Row; 3] = [
 #[test]
 fn limits_are_told(rt: HostRuntime) -> Result<(), Fail> {
     for row in &ROWS {
-        match is_row(rt.alloc(), row) {
+        match is_row(&rt, rt.alloc(), row) {
             Ok(true) => {}
             _ => return Err(Fail::new(row.0)),
         }

@@ -11,5 +11,5 @@ static ROWS: [Row; 1] = [(
 
 #[test]
 fn a_variable_alone_wants_a_meet_of_sorts(rt: HostRuntime) -> Result<(), Fail> {
-    are_replied(rt.alloc(), Asked::Lone, &ROWS)
+    are_replied(&rt, rt.alloc(), Asked::Lone, &ROWS)
 }

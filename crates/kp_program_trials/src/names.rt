@@ -43,5 +43,5 @@ static ROWS: [Row; 2] = [
 
 #[test]
 fn a_module_is_found_by_its_names(rt: HostRuntime) -> Result<(), Fail> {
-    are_replied(rt.alloc(), Asked::Small, &ROWS)
+    are_replied(&rt, rt.alloc(), Asked::Small, &ROWS)
 }

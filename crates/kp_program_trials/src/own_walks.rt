@@ -38,5 +38,5 @@ static ROWS: [Row; 6] = [
 
 #[test]
 fn each_module_has_the_order_of_its_own_walk(rt: HostRuntime) -> Result<(), Fail> {
-    are_replied(rt.alloc(), Asked::Crossed, &ROWS)
+    are_replied(&rt, rt.alloc(), Asked::Crossed, &ROWS)
 }

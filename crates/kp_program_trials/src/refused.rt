@@ -28,5 +28,5 @@ static ROWS: [Row; 4] = [
 
 #[test]
 fn states_are_refused(rt: HostRuntime) -> Result<(), Fail> {
-    are_replied(rt.alloc(), Asked::Toys, &ROWS)
+    are_replied(&rt, rt.alloc(), Asked::Toys, &ROWS)
 }

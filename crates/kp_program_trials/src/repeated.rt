@@ -33,7 +33,7 @@ static ROWS: [Row; 5] = [
 
 #[test]
 fn equations_that_cant_hold_together_meet_nothing(rt: HostRuntime) -> Result<(), Fail> {
-    are_replied(rt.alloc(), Asked::Repeated, &ROWS)
+    are_replied(&rt, rt.alloc(), Asked::Repeated, &ROWS)
 }
 
 /// Chains of equal calls between two numbers: what follows is found in three rounds, and in four.
@@ -52,5 +52,5 @@ static CHAINS: [Row; 2] = [
 
 #[test]
 fn a_chain_of_equal_calls_between_two_numbers_meets_nothing(rt: HostRuntime) -> Result<(), Fail> {
-    are_replied(rt.alloc(), Asked::Chained, &CHAINS)
+    are_replied(&rt, rt.alloc(), Asked::Chained, &CHAINS)
 }

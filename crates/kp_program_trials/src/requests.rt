@@ -2,6 +2,7 @@ use crate::definitions;
 use crate::replies::is_replied;
 use crate::running::{is_told, joined};
 use std::alloc::{AllocError, Global};
+use std::sync::Wait;
 use std::test::Fail;
 
 /// The request to run a term, up to the term.
@@ -148,10 +149,15 @@ fn line_of(alloc: Global, reply: Reply) -> Result<String, AllocError> {
 }
 
 /// Whether what is asked is answered so.
-fn is_answered(alloc: Global, asked: Asked, reply: Reply) -> Result<bool, AllocError> {
+fn is_answered<R: Wait>(
+    rt: &R,
+    alloc: Global,
+    asked: Asked,
+    reply: Reply,
+) -> Result<bool, AllocError> {
     let input = input_of(alloc, asked)?;
     let line = line_of(alloc, reply)?;
-    Ok(is_replied(alloc, definitions::Asked::Counting, &input, &line))
+    Ok(is_replied(rt, alloc, definitions::Asked::Counting, &input, &line))
 }
 
 /// What is asked, and what is replied.
@@ -288,10 +294,10 @@ static ROWS: [(Asked, Reply); 40] = [
 ];
 
 /// How many rows stand before the first of which something else is told.
-fn holding(alloc: Global) -> usize {
+fn holding<R: Wait>(rt: &R, alloc: Global) -> usize {
     let mut place: usize = 0;
     for (asked, reply) in &ROWS {
-        match is_answered(alloc, *asked, *reply) {
+        match is_answered(rt, alloc, *asked, *reply) {
             Ok(true) => place = place.saturating_add(1),
             _ => return place,
         }
@@ -301,7 +307,7 @@ fn holding(alloc: Global) -> usize {
 
 #[test]
 fn requests_have_their_replies(rt: HostRuntime) {
-    let place = holding(rt.alloc());
+    let place = holding(&rt, rt.alloc());
     assert!(rt; place == 40, "row {place}");
 }
 
@@ -368,7 +374,14 @@ static ENDINGS: [(&str, &str, &str, &str); 10] = [
 fn other_endings_are_told(rt: HostRuntime) -> Result<(), Fail> {
     for (command, name, definition, line) in &ENDINGS {
         let words: (&[&str], &[&str]) = (&["kprove", *command, *name], &["--module", "M"]);
-        if !is_told(rt.alloc(), words, (definition.as_bytes(), ""), "", line) {
+        if !is_told(
+            &rt,
+            rt.alloc(),
+            words,
+            (definition.as_bytes(), ""),
+            "",
+            line,
+        ) {
             return Err(Fail::new(*line));
         }
     }

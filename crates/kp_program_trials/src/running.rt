@@ -2,6 +2,7 @@
 use kp_io::{Bytes, Drain, Files, OutsideFault, Shelf};
 use kp_program::run;
 use std::alloc::{AllocError, Global};
+use std::sync::Wait;
 
 /// Adds words of a command line.
 fn add_words(alloc: Global, words: &mut Vec<String>, more: &[&str]) -> Result<(), AllocError> {
@@ -50,7 +51,8 @@ fn is_wanted(wanted: &[u8], status: u8, out: &[u8], err: &[u8]) -> bool {
 }
 
 /// Whether the program tells this with words in two parts, over files, an input and an output.
-pub(crate) fn is_run(
+pub(crate) fn is_run<R: Wait>(
+    rt: &R,
     alloc: Global,
     words: (&[&str], &[&str]),
     files: &mut Files,
@@ -60,7 +62,7 @@ pub(crate) fn is_run(
 ) -> Result<bool, AllocError> {
     let words = spelled(alloc, words.0, words.1)?;
     let mut err = Drain::new(alloc, Vec::new(alloc));
-    let status = run(alloc, &words, files, input, out, &mut err);
+    let status = run(rt, alloc, &words, files, input, out, &mut err);
     Ok(is_wanted(wanted.as_bytes(), status, out.bytes(), err.bytes()))
 }
 
@@ -78,7 +80,8 @@ pub(crate) fn shelf(
 }
 
 /// The same over files with a definition and claims, where no call fails.
-fn is_sure(
+fn is_sure<R: Wait>(
+    rt: &R,
     alloc: Global,
     words: (&[&str], &[&str]),
     files: (&[u8], &str),
@@ -89,18 +92,19 @@ fn is_sure(
     let mut files = shelf(alloc, definition, claims, &[])?;
     let mut input = Bytes::new(Vec::from_slice(alloc, input.as_bytes())?, Vec::new(alloc));
     let mut out = Drain::new(alloc, Vec::new(alloc));
-    Ok(is_run(alloc, words, &mut files, &mut input, &mut out, wanted)?)
+    Ok(is_run(rt, alloc, words, &mut files, &mut input, &mut out, wanted)?)
 }
 
 /// Whether it is told over a definition, claims and an input, and memory was enough.
-pub(crate) fn is_told(
+pub(crate) fn is_told<R: Wait>(
+    rt: &R,
     alloc: Global,
     words: (&[&str], &[&str]),
     files: (&[u8], &str),
     input: &str,
     wanted: &str,
 ) -> bool {
-    match is_sure(alloc, words, files, input, wanted) {
+    match is_sure(rt, alloc, words, files, input, wanted) {
         Ok(told) => told,
         Err(_) => false,
     }

@@ -88,5 +88,5 @@ static ROWS: [Row; 16] = [
 
 #[test]
 fn states_are_simplified_or_refused(rt: HostRuntime) -> Result<(), Fail> {
-    are_replied(rt.alloc(), Asked::Numbers, &ROWS)
+    are_replied(&rt, rt.alloc(), Asked::Numbers, &ROWS)
 }

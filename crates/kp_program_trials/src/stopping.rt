@@ -48,5 +48,5 @@ static ROWS: [Row; 8] = [
 
 #[test]
 fn runs_stop_before_and_behind_rules(rt: HostRuntime) -> Result<(), Fail> {
-    are_replied(rt.alloc(), Asked::Toys, &ROWS)
+    are_replied(&rt, rt.alloc(), Asked::Toys, &ROWS)
 }

@@ -33,5 +33,5 @@ static ROWS: [Row; 5] = [
 
 #[test]
 fn a_name_at_two_sorts_stands_for_what_they_share(rt: HostRuntime) -> Result<(), Fail> {
-    are_replied(rt.alloc(), Asked::Twice, &ROWS)
+    are_replied(&rt, rt.alloc(), Asked::Twice, &ROWS)
 }

@@ -53,5 +53,5 @@ static ROWS: [Row; 9] = [
 
 #[test]
 fn what_is_undecided_is_told(rt: HostRuntime) -> Result<(), Fail> {
-    are_replied(rt.alloc(), Asked::Toys, &ROWS)
+    are_replied(&rt, rt.alloc(), Asked::Toys, &ROWS)
 }

@@ -28,6 +28,7 @@ fn main(rt: HostRuntime) -> ExitCode {
     let mut out = Outgoing::new(rt.stdout());
     let mut err = Outgoing::new(rt.stderr());
     ExitCode::from(run(
+        &rt,
         rt.alloc(),
         &words,
         &mut shelf,

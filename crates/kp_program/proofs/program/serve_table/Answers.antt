@@ -5,12 +5,12 @@ use Rattle.kp_program.proofs.program.serve_table.Goals as goal
 
 pub returns-clause-served : goal.returns-clause-served
 returns-clause-served g c = λ o is.
-    on_ok_weaker c.outcome.result (λ whole. serves_input c.in_ok-service.service.registry c.serve.new.pass o (g.I.Source.left c.args.input.now) (g.I.Source.left c.serve.new.source) (g.O.Sink.held c.args.out.now) (g.O.Sink.held c.serve.new.sink) c.serve.result whole
+    on_ok_weaker c.outcome.result (λ whole. serves_input c.in_ok-service.service.registry c.serve.new.pass o (g.I.Source.left c.args.input.now) (g.I.Source.left c.serve.new.source) (g.O.Sink.held c.args.out.now) (g.O.Sink.held c.serve.new.sink) c.serve.result c.serve.ensures.pass.0 c.in_ok-service.ensures.seats whole
     (c.serve.ensures.served o _ (c.in_ok-service.ensures.seen o is))) c.outcome.ensures.whole
 
 pub returns-clause-front : goal.returns-clause-front
 returns-clause-front g c = λ o is.
-    on_err_weaker c.outcome.result (λ cut. inr (breaks_off c.in_ok-service.service.registry c.serve.new.pass o (g.I.Source.left c.args.input.now) (g.I.Source.left c.serve.new.source) (g.O.Sink.held c.args.out.now) (g.O.Sink.held c.serve.new.sink) c.serve.result cut
+    on_err_weaker c.outcome.result (λ cut. inr (breaks_off c.in_ok-service.service.registry c.serve.new.pass o (g.I.Source.left c.args.input.now) (g.I.Source.left c.serve.new.source) (g.O.Sink.held c.args.out.now) (g.O.Sink.held c.serve.new.sink) c.serve.result c.serve.ensures.pass.0 c.in_ok-service.ensures.seats cut
     (c.serve.ensures.served o _ (c.in_ok-service.ensures.seen o is)))) c.outcome.ensures.broken
 
 pub returns-clause-late : goal.returns-clause-late

@@ -5,10 +5,10 @@ use Rattle.kp_report.specs.View.{line_view}
 use Rattle.kp_program.specs.ClaimFiles.{IsGroundClaim}
 use Rattle.kp_kore.specs.Theory.{Theory}
 use Rattle.kp_book.specs.Books.{Opening}
-use Rattle.kp_program.specs.LocalTold.{IsTheoryOver, table_of}
+use Rattle.kp_program.specs.LocalTold.{IsLinkOver}
 use Rattle.kp_program.specs.Proofs.{IsLineFor}
 use Rattle.kp_program.proofs.prover.prove_all.Given as goal
 
 abbrev pub invariant-loop-place : goal.invariant-loop-place
-invariant-loop-place l =
-    (o : Opening) (t : Theory) → IsTheoryOver (table_of l.service) o t → AllByRecursion IsGroundClaim (items_view l.claims) → AllZip (IsLineFor o t l.max_depth) (take l.place (items_view l.claims)) (map line_view l.lines.items)
+invariant-loop-place g l =
+    (o : Opening) (t : Theory) → IsLinkOver l.fn.link o t → AllByRecursion IsGroundClaim (items_view l.claims) → IsLinkOver l.link o t × AllZip (IsLineFor o t l.max_depth) (take l.place (items_view l.claims)) (map line_view l.lines.items)

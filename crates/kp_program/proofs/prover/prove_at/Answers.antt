@@ -1,17 +1,15 @@
-use Rattle.std.proofs.Common.{◌≡◌, ◌∙◌, ◌<◌, ◌^◌, ap, subst, sym, arith, rules, string_bytes}
+use Rattle.std.proofs.Common.{◌≡◌, ◌∙◌, ◌<◌, ◌^◌, ap, arith, rules, string_bytes}
+use Rattle.kp_claims.specs.Items.{item_view}
 use Rattle.kp_claims.specs.Claims.{LabelledClaim}
 use Rattle.kp_graph.specs.TreeView.{tree_view}
 use Rattle.kp_client.specs.View.{outcome_view}
-use Rattle.kp_modules.specs.declared.table.ModuleTable.{ModuleTable}
-use Rattle.kp_program.specs.LocalTold.{IsTheoryOver}
 use Rattle.kp_program.specs.Proofs.{told_theory}
-use Rattle.kp_program.proofs.Proving.{item_at, outcome_is, serves_theory}
+use Rattle.kp_program.proofs.Proving.{item_at, link_stays, outcome_is, serves_theory, some_at}
 use Rattle.kp_program.proofs.prover.prove_at.Goals as goal
 
-pub returns-in-Ok : goal.returns-in-Ok
-returns-in-Ok c = λ o t x is at ground.
-    let table = c.in_ok-link.link in
-    let here : IsTheoryOver table o t = subst (λ (a : ModuleTable). IsTheoryOver a o t) (sym c.in_ok-link.ensures) is in
+pub returns-in-Ok-clause-line : goal.returns-in-Ok-clause-line
+returns-in-Ok-clause-line g c = λ o t x here at ground.
+    let table = c.args.link.now in
     let serves = serves_theory o t table here in
     let told = told_theory o t in
     let copied : string_bytes c.in_ok-label.label ≡ string_bytes c.index-claims-place.result.label = search rules in
@@ -24,3 +22,8 @@ returns-in-Ok c = λ o t x is at ground.
           (c.in-Ok.ensures.holds x told at serves ground)
           (λ n. c.in-Ok.ensures.stuck x told n at serves);
     }
+
+pub returns-in-Ok-clause-link : goal.returns-in-Ok-clause-link
+returns-in-Ok-clause-link g c = λ o t here.
+    let x = some_at item_view c.args.claims.now c.args.place c.requires.place in
+    link_stays o t c.args.link.now c.prove.new.link _ (c.in-Ok.ensures.proved x.0 x.1).makes here
