@@ -1,13 +1,18 @@
 /* Refuses the Nth allocation of a program, N from REFUSE: LD_PRELOAD=./refuse.so REFUSE=7 kprove ..
+   With COUNT=1 it says at the end on standard error how many there were.
    Built by: cc -shared -fPIC -o refuse.so refuse.c -ldl (refuse.py does that) */
 #define _GNU_SOURCE
 #include <dlfcn.h>
 #include <errno.h>
+#include <stdio.h>
 #include <stdlib.h>
 
 static long left = -1;
 
+static long all = 0;
+
 static int refused(void) {
+    all++;
     if (left < 0) {
         const char *text = getenv("REFUSE");
         left = text ? atol(text) : 0;
@@ -41,4 +46,8 @@ int posix_memalign(void **out, size_t align, size_t size) {
     if (!real) real = dlsym(RTLD_NEXT, "posix_memalign");
     if (refused()) return ENOMEM;
     return real(out, align, size);
+}
+
+__attribute__((destructor)) static void tell(void) {
+    if (getenv("COUNT")) fprintf(stderr, "allocations: %ld\n", all);
 }
