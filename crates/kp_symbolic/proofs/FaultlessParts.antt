@@ -1,13 +1,15 @@
 -- The parts of a predicate without verify faults have none.
-use Rattle.std.proofs.Common.{◌≡◌, List, [], ◌∷◌, Option, None}
+use Rattle.std.proofs.Common.{◌≡◌, List, [], ◌∷◌, length, Option, None}
 use Rattle.std.specs.List.{AllByRecursion}
-use Rattle.kp_kore.specs.Syntax.{Text, KoreSort, KorePattern, negation, conjunction, disjunction, implication, equivalence, exists, forall, ceil, floor, equals, membership}
+use Rattle.kp_kore.specs.Syntax.{Text, KoreSort, KoreSorts, no_sorts, next_sort, KorePattern, KorePatterns, application, no_patterns, next_pattern, negation, conjunction, disjunction, implication, equivalence, exists, forall, ceil, floor, equals, membership}
+use Rattle.kp_kore.specs.Parts.{sort_list, pattern_list}
 use Rattle.kp_kore.specs.Signature.{KoreSignature}
 use Rattle.kp_kore.specs.View.{view, patterns_view}
 use Rattle.kp_kore.specs.declared.pattern.Pattern.{Pattern}
-use Rattle.kp_signature.specs.Places.{Place, part_at, after, under_binder}
-use Rattle.kp_signature.specs.Verify.{VerifyFault, first_fault, fault_at, members_fault, first_of}
-use Rattle.kp_signature.proofs.FaultLemmas.{nothing_earlier, nothing_later}
+use Rattle.kp_signature.specs.Places.{Place, argument_at, part_at, after, under_binder, argument_sorts}
+use Rattle.kp_signature.specs.Verify.{VerifyFault, first_fault, fault_at, arguments_fault, members_fault, first_of}
+use Rattle.kp_signature.proofs.ApplicationLemmas.{as_many_arguments}
+use Rattle.kp_signature.proofs.FaultLemmas.{nothing_earlier, nothing_later, keeps_rules}
 use Rattle.kp_symbolic.specs.Faultless.{IsFaultless}
 
 second_none : (a b c : Option VerifyFault) → first_of (a ∷ b ∷ c ∷ []) ≡ None → b ≡ None
@@ -58,6 +60,20 @@ second_in g a s p q h = record { place = after p (part_at h.place a); faultless 
 faultless_members : (g : KoreSignature) (c : Place) (ps : List Pattern) → members_fault g c (patterns_view ps) ≡ None → AllByRecursion (λ p. IsFaultless g (view p)) ps
 faultless_members g c [] h = tt
 faultless_members g c (p ∷ ps) h = (record { place = c; faultless = nothing_earlier _ _ h }, faultless_members g (after (view p) c) ps (nothing_later (first_fault g c (view p)) _ h))
+
+-- the one argument of an application
+pub only_argument : (g : KoreSignature) (f : Text) (ss : KoreSorts) (p : KorePattern) → IsFaultless g (application f ss (next_pattern p no_patterns)) → IsFaultless g p
+only_argument g f ss p h = by (argument_sorts g f ss) (as_many_arguments g f ss ps (keeps_rules g h.place q (nothing_earlier (fault_at g h.place q) _ h.faultless)).symbol) (nothing_later (fault_at g h.place q) _ h.faultless)
+  where
+    ps : KorePatterns
+    ps = next_pattern p no_patterns
+
+    q : KorePattern
+    q = application f ss ps
+
+    by : (rs : KoreSorts) → length (sort_list rs) ≡ length (pattern_list ps) → arguments_fault g h.place rs ps ≡ None → IsFaultless g p
+    by (next_sort s rs) n e = record { place = argument_at h.place s; faultless = nothing_earlier (first_fault g (argument_at h.place s) p) _ e }
+    by no_sorts n e = absurd (cc)
 
 pub of_conjunction : (g : KoreSignature) (s : KoreSort) (ps : List Pattern) → IsFaultless g (conjunction s (patterns_view ps)) → AllByRecursion (λ p. IsFaultless g (view p)) ps
 of_conjunction g s ps h = faultless_members g (part_at h.place s) ps (nothing_later (fault_at g h.place (conjunction s (patterns_view ps))) _ h.faultless)

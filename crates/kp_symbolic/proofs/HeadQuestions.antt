@@ -1,12 +1,12 @@
 -- A question for a head says what its predicate said; an opened test says what the term's head is.
-use Rattle.std.proofs.Common.{◌≡◌, refl, sym, ◌∙◌, ap, ap₂, subst, Bool, true, false, not, cond, ◌&&◌, ◌||◌, List, [], ◌∷◌, ◌++◌, Some, None, ◌↔◌}
+use Rattle.std.proofs.Common.{◌≡◌, refl, sym, ◌∙◌, ap, ap₂, subst, Bool, true, false, not, cond, ◌&&◌, ◌||◌, List, [], ◌∷◌, ◌++◌, Option, Some, None, ◌↔◌}
 use Rattle.std.specs.Prelude.{if◌then◌else◌}
 use Rattle.std.specs.Bool.{beq}
 use Rattle.std.specs.List.{AllByRecursion}
 use Rattle.std.specs.Str.{bytes_eq}
 use Rattle.std.proofs.lemmas.List.{append_assoc, append-nil}
 use Rattle.std.proofs.lemmas.Slice.Eq.{bytes_eq-Decides}
-use Rattle.kp_kore.specs.Syntax.{Text, KoreSort, KoreSorts, no_sorts, next_sort, KorePattern, KorePatterns, variable, application, exists, equals, no_patterns, next_pattern}
+use Rattle.kp_kore.specs.Syntax.{Text, KoreSort, KoreSorts, no_sorts, next_sort, KorePattern, KorePatterns, variable, application, negation, exists, forall, equals, membership, no_patterns, next_pattern}
 use Rattle.kp_kore.specs.Attributes.{sorts_equal}
 use Rattle.kp_kore.specs.Hooks.{Hook, addition, whole_arithmetic, whole_comparison, truth_connective, truth_negation, values_equal, values_different}
 use Rattle.kp_kore.specs.Parts.{SortedName, free_variables, without_name}
@@ -25,7 +25,8 @@ use Rattle.kp_symbolic.specs.Formulas.{Formula}
 use Rattle.kp_symbolic.specs.States.{HeadTest, one_head, head_of_sort, PassesHead, Literal}
 use Rattle.kp_symbolic.specs.WellFormed.{stands_in_terms, IsWellSorted}
 use Rattle.kp_symbolic.specs.Heads.{passes_head, head_answer}
-use Rattle.kp_symbolic.specs.Opening.{HeadQuestion, are_variables, question_if, asked_constructor, asked_under_inj, asked_of, head_question, head_of_call, opened_test, fixed}
+use Rattle.kp_symbolic.specs.Opening.{HeadQuestion, are_variables, question_if, asked_constructor, asked_under_inj, asked_of, asked_variable, asked_side, asked_of_variable, under_injection, question_of_sides, first_question, head_question, denied_question, head_of_call, opened_test, fixed}
+use Rattle.kp_symbolic.proofs.Distribution.{all_first, all_second}
 use Rattle.kp_symbolic.proofs.SeenLemmas.{Says}
 use Rattle.kp_symbolic.proofs.SideLemmas.{decided_says}
 use Rattle.kp_symbolic.proofs.HeadLemmas.{passes-Decides, head_answer_is, head_from_sort}
@@ -264,6 +265,48 @@ of_right g w xs s u y construction f ss ps q m h e = asked_right g w xs s u y co
 of_right g w xs s u y (interpretation i) f ss ps q m h e = absurd (cc)
 of_right g w xs s u y foreign f ss ps q m h e = absurd (cc)
 
+-- ---- the other side, and the variable that it asks of
+
+bound_right : (g : KoreSignature) (w : Valuation) (xs : List SortedName) (s : KoreSort) (u : Value) (y : KorePattern) (z : Text) (t : KoreSort) (q : HeadQuestion) → HasSort g s u → asked_variable xs y z t ≡ Some q → IsRightOf g w xs u y (variable z t) q
+bound_right g w (x ∷ []) s u y z t q h e =
+    let k = question_inside (are_variables (x ∷ []) (next_sort t no_sorts) (next_pattern (variable z t) no_patterns)) y (head_of_sort t) q e in
+    (k.1, subst (IsRightQuestion g w (x ∷ []) u (variable z t)) (sym k.2) (variable_right g w x s u t z t k.0 h))
+bound_right g w [] s u y z t q h e = absurd (none_is_some e)
+bound_right g w (x ∷ v ∷ xs) s u y z t q h e = absurd (none_is_some e)
+
+side_right : (g : KoreSignature) (w : Valuation) (xs : List SortedName) (s : KoreSort) (u : Value) (y r : KorePattern) (q : HeadQuestion) → HasSort g s u → asked_side g xs y r ≡ Some q → IsRightOf g w xs u y r q
+side_right g w xs s u y (application f ss ps) q h e = of_right g w xs s u y (meaning_of g f) f ss ps q refl h e
+side_right g w xs s u y (variable z t) q h e = bound_right g w xs s u y z t q h e
+side_right g w xs s u y r q h e = absurd (none_is_some e)
+
+-- the one side is a variable that isn't bound, as it stands or under inj
+pub record IsAskedOf (g : KoreSignature) (xs : List SortedName) (p r : KorePattern) (q : HeadQuestion) : Type 0 where
+  pub asked : SortedName
+  pub unbound : is_named asked.name xs ≡ false
+  pub variables : free_variables p ≡ asked ∷ []
+  pub is : (w : Valuation) → instance g w p ≡ w asked.name
+  pub from : asked_side g xs (variable asked.name asked.sort) r ≡ Some q
+
+variable_asked : (g : KoreSignature) (xs : List SortedName) (p r : KorePattern) (q : HeadQuestion) → asked_of_variable g xs p r ≡ Some q → IsAskedOf g xs p r q
+variable_asked g xs (variable y t) r q e = by (is_named y xs) refl e
+  where
+    by : (b : Bool) → is_named y xs ≡ b → (if b then None else asked_side g xs (variable y t) r) ≡ Some q → IsAskedOf g xs (variable y t) r q
+    by true i c = absurd (none_is_some c)
+    by false i c = record { asked = record { name = y; sort = t }; unbound = i; variables = refl; is = λ w. refl; from = c }
+variable_asked g xs p r q e = absurd (none_is_some e)
+
+injected_asked : (g : KoreSignature) (xs : List SortedName) (f : Text) (ss : KoreSorts) (p r : KorePattern) (q : HeadQuestion) (m : SymbolMeaning) → meaning_of g f ≡ m → under_injection m (asked_of_variable g xs p r) ≡ Some q → IsAskedOf g xs (application f ss (next_pattern p no_patterns)) r q
+injected_asked g xs f ss p r q injection m e =
+    let a = variable_asked g xs p r q e in
+    record { asked = a.asked; unbound = a.unbound; variables = append-nil (free_variables p) ∙ a.variables; is = λ w. under_inj g w f ss p m ∙ a.is w; from = a.from }
+injected_asked g xs f ss p r q construction m e = absurd (none_is_some e)
+injected_asked g xs f ss p r q (interpretation i) m e = absurd (none_is_some e)
+injected_asked g xs f ss p r q foreign m e = absurd (none_is_some e)
+
+pub asked_of_sides : (g : KoreSignature) (xs : List SortedName) (p r : KorePattern) (q : HeadQuestion) → question_of_sides g xs p r ≡ Some q → IsAskedOf g xs p r q
+asked_of_sides g xs (application f ss (next_pattern p no_patterns)) r q e = injected_asked g xs f ss p r q (meaning_of g f) refl e
+asked_of_sides g xs p r q e = variable_asked g xs p r q e
+
 -- ---- what the question asks of a variable that isn't bound
 
 record IsBase (g : KoreSignature) (w : Valuation) (Q : SortedName → Type 0) (xs : List SortedName) (body : KorePattern) (q : HeadQuestion) : Type 0 where
@@ -273,21 +316,52 @@ record IsBase (g : KoreSignature) (w : Valuation) (Q : SortedName → Type 0) (x
   gives : (us : Values) → HaveSorts g (sorts_of xs) us → IsTrueUnder g (assigned_all w xs us) body → PassesHead g q.test (head_of (w asked.name))
   given : PassesHead g q.test (head_of (w asked.name)) → (us : Values) × HaveSorts g (sorts_of xs) us × IsTrueUnder g (assigned_all w xs us) body
 
-base_question : (g : KoreSignature) (w : Valuation) (Q : SortedName → Type 0) (xs : List SortedName) (body : KorePattern) (q : HeadQuestion) → ((x : SortedName) → Q x → HasSort g x.sort (w x.name)) → bound_of body ≡ [] → head_question g xs body ≡ Some q → AllByRecursion (λ z. is_named z.name xs ≡ false → Q z) (free_variables body) → IsBase g w Q xs body q
-base_question g w Q xs (equals a s (variable y t) (application f ss ps)) q k n e h = by (is_named y xs) refl e
+-- of one side, where it is a variable that isn't bound, as it stands or under inj
+record IsSideBase (g : KoreSignature) (w : Valuation) (Q : SortedName → Type 0) (xs : List SortedName) (p r : KorePattern) (q : HeadQuestion) : Type 0 where
+  asked : SortedName
+  subject : q.subject ≡ variable asked.name asked.sort
+  holds : Q asked
+  gives : (us : Values) → HaveSorts g (sorts_of xs) us → instance g (assigned_all w xs us) p ≡ instance g (assigned_all w xs us) r → PassesHead g q.test (head_of (w asked.name))
+  given : PassesHead g q.test (head_of (w asked.name)) → (us : Values) × HaveSorts g (sorts_of xs) us × (instance g (assigned_all w xs us) p ≡ instance g (assigned_all w xs us) r)
+
+side_base : (g : KoreSignature) (w : Valuation) (Q : SortedName → Type 0) (xs : List SortedName) (p r : KorePattern) (q : HeadQuestion) → ((x : SortedName) → Q x → HasSort g x.sort (w x.name)) → question_of_sides g xs p r ≡ Some q → AllByRecursion (λ z. is_named z.name xs ≡ false → Q z) (free_variables p) → IsSideBase g w Q xs p r q
+side_base g w Q xs p r q k e h =
+    let a = asked_of_sides g xs p r q e in
+    let x = a.asked in
+    let o : Q x = (subst (AllByRecursion (λ z. is_named z.name xs ≡ false → Q z)) a.variables h).0 a.unbound in
+    let m = side_right g w xs x.sort (w x.name) (variable x.name x.sort) r q (k x o) a.from in
+    record {
+      asked = x;
+      subject = m.0;
+      holds = o;
+      gives = λ us j z. m.1.gives us j (sym (a.is (assigned_all w xs us) ∙ off_names w xs us x.name a.unbound) ∙ z);
+      given = λ z. let n = m.1.given z in (n.0, n.1, (a.is (assigned_all w xs n.0) ∙ off_names w xs n.0 x.name a.unbound) ∙ n.2);
+    }
+
+-- of the body that is the equality of two sides, in either order
+of_sides : (g : KoreSignature) (w : Valuation) (Q : SortedName → Type 0) (xs : List SortedName) (body p r : KorePattern) (q : HeadQuestion) → ((z : Valuation) → IsTrueUnder g z body → instance g z p ≡ instance g z r) → ((z : Valuation) → instance g z p ≡ instance g z r → IsTrueUnder g z body) → IsSideBase g w Q xs p r q → IsBase g w Q xs body q
+of_sides g w Q xs body p r q to back b = record {
+  asked = b.asked;
+  subject = b.subject;
+  holds = b.holds;
+  gives = λ us j z. b.gives us j (to (assigned_all w xs us) z);
+  given = λ z. let n = b.given z in (n.0, n.1, back (assigned_all w xs n.0) n.2);
+}
+
+equality_base : (g : KoreSignature) (w : Valuation) (Q : SortedName → Type 0) (xs : List SortedName) (body p r : KorePattern) (q : HeadQuestion) → ((x : SortedName) → Q x → HasSort g x.sort (w x.name)) → ((z : Valuation) → IsTrueUnder g z body → instance g z p ≡ instance g z r) → ((z : Valuation) → instance g z p ≡ instance g z r → IsTrueUnder g z body) →
+    first_question (question_of_sides g xs p r) (question_of_sides g xs r p) ≡ Some q → AllByRecursion (λ z. is_named z.name xs ≡ false → Q z) (free_variables p ++ free_variables r) → IsBase g w Q xs body q
+equality_base g w Q xs body p r q k to back e h = by (question_of_sides g xs p r) refl e
   where
-    by : (b : Bool) → is_named y xs ≡ b → (if b then None else asked_of g xs (variable y t) (meaning_of g f) f ss ps) ≡ Some q → IsBase g w Q xs (equals a s (variable y t) (application f ss ps)) q
-    by true i c = absurd (cc)
-    by false i c =
-        let o = h.0 i in
-        let r = of_right g w xs t (w y) (variable y t) (meaning_of g f) f ss ps q refl (k (record { name = y; sort = t }) o) c in
-        record {
-          asked = record { name = y; sort = t };
-          subject = r.0;
-          holds = o;
-          gives = λ us j z. r.1.gives us j (sym (off_names w xs us y i) ∙ z);
-          given = λ z. let m = r.1.given z in (m.0, m.1, off_names w xs m.0 y i ∙ m.2);
-        }
+    N : SortedName → Type 0
+    N = λ z. is_named z.name xs ≡ false → Q z
+
+    by : (o : Option HeadQuestion) → question_of_sides g xs p r ≡ o → first_question o (question_of_sides g xs r p) ≡ Some q → IsBase g w Q xs body q
+    by (Some m) i c = of_sides g w Q xs body p r q to back (side_base g w Q xs p r q k (i ∙ c) (all_first N (free_variables p) (free_variables r) h))
+    by None i c = of_sides g w Q xs body r p q (λ z t. sym (to z t)) (λ z t. back z (sym t)) (side_base g w Q xs r p q k c (all_second N (free_variables p) (free_variables r) h))
+
+base_question : (g : KoreSignature) (w : Valuation) (Q : SortedName → Type 0) (xs : List SortedName) (body : KorePattern) (q : HeadQuestion) → ((x : SortedName) → Q x → HasSort g x.sort (w x.name)) → bound_of body ≡ [] → head_question g xs body ≡ Some q → AllByRecursion (λ z. is_named z.name xs ≡ false → Q z) (free_variables body) → IsBase g w Q xs body q
+base_question g w Q xs (equals a s p r) q k n e h = equality_base g w Q xs (equals a s p r) p r q k (λ z t. t) (λ z t. t) e h
+base_question g w Q xs (membership a s p r) q k n e h = equality_base g w Q xs (membership a s p r) p r q k (λ z t. t) (λ z t. t) e h
 base_question g w Q xs (exists s x t p) q k n e h = absurd (cc)
 base_question g w Q xs body q k n e h = absurd (none_is_some e)
 
@@ -313,6 +387,32 @@ question_says g w Q p q k e h =
         (λ m. stable_truth g p w (λ n. m (λ z. let j = base.given z in (exists_says g w p).1 n j.0 j.1 j.2))),
       );
     }
+
+-- ---- \forall of the opposite
+
+-- what is denied, as a question
+abbrev pub denied_body : KorePattern → KorePattern
+denied_body (forall s x t p) = exists s x t (denied_body p)
+denied_body (negation s p) = p
+denied_body p = p
+
+pub denied_asks : (g : KoreSignature) (xs : List SortedName) (p : KorePattern) (q : HeadQuestion) → denied_question g xs p ≡ Some q → head_question g xs (denied_body p) ≡ Some q
+denied_asks g xs (forall s x t p) q e = denied_asks g (xs ++ record { name = x; sort = t } ∷ []) p q e
+denied_asks g xs (negation s p) q e = e
+denied_asks g xs p q e = absurd (none_is_some e)
+
+pub denied_variables : (p : KorePattern) → free_variables (denied_body p) ≡ free_variables p
+denied_variables (forall s x t p) = ap (without_name x) (denied_variables p)
+denied_variables (negation s p) = refl
+denied_variables p = refl
+
+pub denied_says : (g : KoreSignature) (w : Valuation) (xs : List SortedName) (p : KorePattern) (q : HeadQuestion) → denied_question g xs p ≡ Some q → IsTrueUnder g w p ↔ (¬ IsTrueUnder g w (denied_body p))
+denied_says g w xs (forall s x t p) q e = (
+  (λ h n. n (λ u k z. (denied_says g (assigned w x u) (xs ++ record { name = x; sort = t } ∷ []) p q e).0 (h u k) z)),
+  (λ n u k. (denied_says g (assigned w x u) (xs ++ record { name = x; sort = t } ∷ []) p q e).1 (λ z. n (λ all. all u k z))),
+)
+denied_says g w xs (negation s p) q e = ((λ h. h), (λ h. h))
+denied_says g w xs p q e = absurd (none_is_some e)
 
 -- ---- an opened test
 

@@ -5,7 +5,7 @@ use Rattle.std.specs.List.{AllByRecursion, filter}
 use Rattle.std.specs.Str.{bytes_eq}
 use Rattle.std.proofs.lemmas.Slice.Eq.{bytes_eq-Decides}
 use Rattle.std.proofs.lemmas.List.{append_assoc}
-use Rattle.kp_kore.specs.Syntax.{Text, KoreSort, KorePattern, variable, application, literal, negation, conjunction, exists, ceil, equals, membership, no_patterns, next_pattern}
+use Rattle.kp_kore.specs.Syntax.{Text, KoreSort, KorePattern, variable, application, literal, negation, conjunction, exists, forall, ceil, equals, membership, no_patterns, next_pattern}
 use Rattle.kp_kore.specs.Parts.{SortedName, is_term, free_variables, all_free_variables}
 use Rattle.kp_kore.specs.Signature.{KoreSignature}
 use Rattle.kp_kore.specs.Value.{HasSort, head_of}
@@ -23,7 +23,7 @@ use Rattle.kp_symbolic.specs.States.{variables_for, PassesHead, Literal, IsLiter
 use Rattle.kp_symbolic.specs.WellFormed.{IsWellSorted}
 use Rattle.kp_symbolic.specs.Alike.{literals_same}
 use Rattle.kp_symbolic.specs.Folding.{term_for, folded}
-use Rattle.kp_symbolic.specs.Opening.{signed, literal_fact, fixed, is_left, opened_same, HeadQuestion, head_question, opened_test, quotation, opened_ceil, opened_leaf, opened_predicate}
+use Rattle.kp_symbolic.specs.Opening.{signed, literal_fact, fixed, is_left, opened_same, HeadQuestion, head_question, denied_question, opened_test, quotation, opened_ceil, opened_leaf, opened_predicate}
 use Rattle.kp_symbolic.specs.Clauses.{distributed, without_repeats, is_too_large, quoted_literal, clauses_of_conjunct, literals_of_conjunct, clauses_of_conjuncts, clauses_of}
 use Rattle.kp_symbolic.proofs.AlikeLemmas.{literals_are}
 use Rattle.kp_symbolic.proofs.Distribution.{all_both, all_first, all_second, clauses_say, kept_once_says}
@@ -34,7 +34,7 @@ use Rattle.kp_symbolic.proofs.SeenLemmas.{Says, says_the_same}
 use Rattle.kp_symbolic.proofs.CallOpening.{opened_same_says}
 use Rattle.kp_symbolic.proofs.WellSorted.{term_sorted, term_given}
 use Rattle.kp_symbolic.proofs.Read.{Stands, StandBoth, equals_stand, membership_stands, IsRead, AreRead, read_closed, IsSide, side_of, conjuncts_read}
-use Rattle.kp_symbolic.proofs.HeadQuestions.{question_says, test_says}
+use Rattle.kp_symbolic.proofs.HeadQuestions.{question_says, denied_body, denied_asks, denied_variables, denied_says, test_says}
 
 -- ---- quoted predicates
 
@@ -174,17 +174,37 @@ abbrev pub asked_formula : KoreSignature → List Replaced → Bool → KorePatt
 asked_formula g rs b p (Some q) = opened_test g b q.test (literal_fact b (quotation rs p)) (folded g rs q.subject)
 asked_formula g rs b p None = literal_fact b (quotation rs p)
 
+-- a test of the head of the term in the place of a variable
+test_opened : (g : KoreSignature) (rs : List Replaced) (v : Valuation) (b : Bool) (kept : Formula Literal) (q : HeadQuestion) (x : SortedName) → q.subject ≡ variable x.name x.sort → IsPlaced g rs v x → Says g v b (opened_test g b q.test kept (folded g rs q.subject)) (¬ ¬ PassesHead g q.test (head_of (under_replaced g rs v x.name)))
+test_opened g rs v b kept q x e h =
+    let w = under_replaced g rs v in
+    let t = term_for x (replacement_for rs x.name) in
+    let i : Says g v b (opened_test g b q.test kept t) (¬ ¬ PassesHead g q.test (head_of (term_instance g v t))) = test_says g v b q.test kept x.sort t h.0 (for_variables (λ y. HasSort g y.sort (v y.name)) x (replacement_for rs x.name) h.1) in
+    subst (λ z. Says g v b (opened_test g b q.test kept (folded g rs z)) (¬ ¬ PassesHead g q.test (head_of (w x.name)))) (sym e) (subst (λ u. Says g v b (opened_test g b q.test kept t) (¬ ¬ PassesHead g q.test (head_of u))) (for_instance g rs v x.name x.sort (replacement_for rs x.name) refl) i)
+
 question_opened : (g : KoreSignature) (rs : List Replaced) (v : Valuation) (b : Bool) (p : KorePattern) (o : Option HeadQuestion) → IsRead g rs v p → head_question g [] p ≡ o → Says g v b (asked_formula g rs b p o) (IsTrueUnder g (under_replaced g rs v) p)
 question_opened g rs v b p None h e = quoted_says g rs v b p
 question_opened g rs v b p (Some q) h e =
     let w = under_replaced g rs v in
     let a = question_says g w (IsPlaced g rs v) p q (placed_value g rs v) e (all_placed g rs v (free_variables p) h.stands.placed h.given) in
-    let x = a.asked in
-    let t = term_for x (replacement_for rs x.name) in
     let f = opened_test g b q.test (literal_fact b (quotation rs p)) (folded g rs q.subject) in
-    let i : Says g v b (opened_test g b q.test (literal_fact b (quotation rs p)) t) (¬ ¬ PassesHead g q.test (head_of (term_instance g v t))) = test_says g v b q.test (literal_fact b (quotation rs p)) x.sort t a.holds.0 (for_variables (λ y. HasSort g y.sort (v y.name)) x (replacement_for rs x.name) a.holds.1) in
-    let j : Says g v b f (¬ ¬ PassesHead g q.test (head_of (w x.name))) = subst (λ z. Says g v b (opened_test g b q.test (literal_fact b (quotation rs p)) (folded g rs z)) (¬ ¬ PassesHead g q.test (head_of (w x.name)))) (sym a.subject) (subst (λ u. Says g v b (opened_test g b q.test (literal_fact b (quotation rs p)) t) (¬ ¬ PassesHead g q.test (head_of u))) (for_instance g rs v x.name x.sort (replacement_for rs x.name) refl) i) in
-    says_the_same g v b f (¬ ¬ PassesHead g q.test (head_of (w x.name))) (IsTrueUnder g w p) (a.says.1, a.says.0) j
+    says_the_same g v b f (¬ ¬ PassesHead g q.test (head_of (w a.asked.name))) (IsTrueUnder g w p) (a.says.1, a.says.0) (test_opened g rs v b (literal_fact b (quotation rs p)) q a.asked a.subject a.holds)
+
+abbrev pub denied_formula : KoreSignature → List Replaced → Bool → KorePattern → Option HeadQuestion → Formula Literal
+denied_formula g rs b p (Some q) = opened_test g (not b) q.test (literal_fact b (quotation rs p)) (folded g rs q.subject)
+denied_formula g rs b p None = literal_fact b (quotation rs p)
+
+denied_opened : (g : KoreSignature) (rs : List Replaced) (v : Valuation) (b : Bool) (p : KorePattern) (o : Option HeadQuestion) → IsRead g rs v p → denied_question g [] p ≡ o → Says g v b (denied_formula g rs b p o) (IsTrueUnder g (under_replaced g rs v) p)
+denied_opened g rs v b p None h e = quoted_says g rs v b p
+denied_opened g rs v b p (Some q) h e =
+    let w = under_replaced g rs v in
+    let r = denied_body p in
+    let a = question_says g w (IsPlaced g rs v) r q (placed_value g rs v) (denied_asks g [] p q e) (subst (AllByRecursion (IsPlaced g rs v)) (sym (denied_variables p)) (all_placed g rs v (free_variables p) h.stands.placed h.given)) in
+    let f = opened_test g (not b) q.test (literal_fact b (quotation rs p)) (folded g rs q.subject) in
+    let i : Says g v (not b) f (IsTrueUnder g w r) = says_the_same g v (not b) f (¬ ¬ PassesHead g q.test (head_of (w a.asked.name))) (IsTrueUnder g w r) (a.says.1, a.says.0) (test_opened g rs v (not b) (literal_fact b (quotation rs p)) q a.asked a.subject a.holds) in
+    let turned = flip b (IsTrueUnder g w r) (stable_truth g r w) in
+    let d = denied_says g w [] p q e in
+    says_the_same g v b f (¬ IsTrueUnder g w r) (IsTrueUnder g w p) (d.1, d.0) ((λ t. turned.0 (i.0 t)), (λ t. i.1 (turned.1 t)))
 
 -- ---- the leaf
 
@@ -193,6 +213,7 @@ leaf_says g rs v alone b (equals a s p q) l h = both_say g rs v alone b a p q (e
 leaf_says g rs v alone b (membership a s p q) l h = both_say g rs v alone b a p q (membership_stands g rs a s p q h.stands) h.predicate h.given
 leaf_says g rs v alone b (ceil a s p) l h = ceil_says g rs v alone b a s p h l
 leaf_says g rs v alone b (exists s x t p) l h = question_opened g rs v b (exists s x t p) (head_question g [] (exists s x t p)) h refl
+leaf_says g rs v alone b (forall s x t p) l h = denied_opened g rs v b (forall s x t p) (denied_question g [] (forall s x t p)) h refl
 leaf_says g rs v alone b p l h = quoted_says g rs v b p
 
 pub predicate_says : (g : KoreSignature) (rs : List Replaced) (v : Valuation) (b : Bool) (p : KorePattern) → IsRead g rs v p → Says g v b (opened_predicate g rs b p) (IsTrueUnder g (under_replaced g rs v) p)

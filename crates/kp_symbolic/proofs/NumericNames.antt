@@ -15,7 +15,7 @@ use Rattle.kp_symbolic.specs.Terms.{SymbolicTerm, unknown, offset, known, headed
 use Rattle.kp_symbolic.specs.States.{Atom, same, has_head, quoted, atom_variables, clause_variables, Literal, SymbolicState}
 use Rattle.kp_symbolic.specs.WellFormed.{AreAtHand}
 use Rattle.kp_symbolic.specs.Solving.{Equation, equation_of}
-use Rattle.kp_symbolic.specs.Plain.{WholePart, whole_part, TokenPart, token_part, Form, compares, is_truth, equates, asks, gives, comparing, equating, first_form, equality_form, call_form, truth_form, same_form, form_of, head_form, constant_form, solved_form, stands_alone, own_form, ReadLiteral, read_clause, read_from, read_clauses}
+use Rattle.kp_symbolic.specs.Plain.{WholePart, whole_part, TokenPart, token_part, Form, compares, is_truth, equates, asks, gives, comparing, equating, first_form, equality_form, call_form, truth_form, same_form, form_of, head_form, head_by_sides, head_by_truth, head_by_call, constant_form, solved_form, stands_in_none, own_form, ReadLiteral, read_clause, read_from, read_clauses}
 use Rattle.kp_symbolic.specs.Weights.{DifferenceBound, bounds_of, forms_in, all_bounds, each_once, name_in, numeric_names}
 use Rattle.kp_symbolic.specs.Shown.{whole_variables, numeric_count}
 use Rattle.kp_symbolic.proofs.Distribution.{all_both, all_first, all_second}
@@ -258,20 +258,33 @@ atom_counted g hand b (quoted p rs) a = tt
 form_counted : (g : KoreSignature) (hand : List SortedName) (l : Literal) → AreAtHand (atom_variables l.atom) hand → MaybeCounted g hand (form_of g l)
 form_counted g hand l a = atom_counted g hand l.holds l.atom a
 
-constant_counted : (g : KoreSignature) (hand : List SortedName) (t u : SymbolicTerm) → MaybeCounted g hand (constant_form t u)
-constant_counted g hand (unknown x) (known (constructed c no_values)) = tt
-constant_counted g hand (known (constructed c no_values)) (unknown x) = tt
-constant_counted g hand _ _ = tt
+constant_counted : (g : KoreSignature) (hand : List SortedName) (b : Bool) (t u : SymbolicTerm) → MaybeCounted g hand (constant_form b t u)
+constant_counted g hand b (unknown x) (known (constructed c no_values)) = tt
+constant_counted g hand b (known (constructed c no_values)) (unknown x) = tt
+constant_counted g hand b _ _ = tt
 
-abbrev head_form_of : Bool → Atom → Option Form
-head_form_of b (has_head x test) = Some (asks x test b)
-head_form_of false (same s t u) = constant_form t u
-head_form_of b a = None
+head_call_counted : (g : KoreSignature) (hand : List SortedName) (b : Bool) (m : SymbolMeaning) (t u : SymbolicTerm) → MaybeCounted g hand (head_by_call b m t u)
+head_call_counted g hand b (interpretation values_equal) t u = constant_counted g hand b t u
+head_call_counted g hand b (interpretation values_different) t u = constant_counted g hand (not b) t u
+head_call_counted g hand b _ t u = tt
 
-head_counted_of : (g : KoreSignature) (hand : List SortedName) (b : Bool) (a : Atom) → MaybeCounted g hand (head_form_of b a)
+head_truth_counted : (g : KoreSignature) (hand : List SortedName) (b : Bool) (t : SymbolicTerm) → MaybeCounted g hand (head_by_truth g b t)
+head_truth_counted g hand b (headed f (next_term t (next_term u no_terms))) = head_call_counted g hand b (meaning_of g f) t u
+head_truth_counted g hand b _ = tt
+
+head_sides_counted : (g : KoreSignature) (hand : List SortedName) (b : Bool) (t u : SymbolicTerm) → MaybeCounted g hand (head_by_sides g b t u)
+head_sides_counted g hand b t (known (truth c)) = head_truth_counted g hand (beq b c) t
+head_sides_counted g hand b (known (truth c)) u = head_truth_counted g hand (beq b c) u
+head_sides_counted g hand b t u = constant_counted g hand b t u
+
+abbrev head_form_of : KoreSignature → Bool → Atom → Option Form
+head_form_of g b (has_head x test) = Some (asks x test b)
+head_form_of g b (same s t u) = head_by_sides g b t u
+head_form_of g b (quoted p rs) = None
+
+head_counted_of : (g : KoreSignature) (hand : List SortedName) (b : Bool) (a : Atom) → MaybeCounted g hand (head_form_of g b a)
 head_counted_of g hand b (has_head x test) = tt
-head_counted_of g hand false (same s t u) = constant_counted g hand t u
-head_counted_of g hand true (same s t u) = tt
+head_counted_of g hand b (same s t u) = head_sides_counted g hand b t u
 head_counted_of g hand b (quoted p rs) = tt
 
 solved_if : (g : KoreSignature) (hand : List SortedName) (e : Equation) (b : Bool) → MaybeCounted g hand (if b then None else Some (gives e))
@@ -279,12 +292,12 @@ solved_if g hand e true = tt
 solved_if g hand e false = tt
 
 solved_counted : (g : KoreSignature) (hand : List SortedName) (s : SymbolicState) (others : List (List Literal)) (o : Option Equation) → MaybeCounted g hand (solved_form g s others o)
-solved_counted g hand s others (Some e) = solved_if g hand e (has_only_numbers g e.variable.sort || not (stands_alone s others e.variable.name))
+solved_counted g hand s others (Some e) = solved_if g hand e (has_only_numbers g e.variable.sort || not (stands_in_none others e.variable.name))
 solved_counted g hand s others None = tt
 
 own_counted : (g : KoreSignature) (hand : List SortedName) (s : SymbolicState) (others : List (List Literal)) (l : Literal) → AreAtHand (atom_variables l.atom) hand → MaybeCounted g hand (own_form g s others l)
-own_counted g hand s others l a = first_counted g hand (form_of g l) (first_form (head_form l) (solved_form g s others (equation_of g (l ∷ [])))) (form_counted g hand l a)
-    (first_counted g hand (head_form l) (solved_form g s others (equation_of g (l ∷ []))) (head_counted_of g hand l.holds l.atom) (solved_counted g hand s others (equation_of g (l ∷ []))))
+own_counted g hand s others l a = first_counted g hand (form_of g l) (first_form (head_form g l) (solved_form g s others (equation_of g (l ∷ [])))) (form_counted g hand l a)
+    (first_counted g hand (head_form g l) (solved_form g s others (equation_of g (l ∷ []))) (head_counted_of g hand l.holds l.atom) (solved_counted g hand s others (equation_of g (l ∷ []))))
 
 -- ---- the clauses
 

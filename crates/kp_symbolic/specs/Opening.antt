@@ -6,7 +6,7 @@ use Rattle.std.specs.Prelude.{Bool, true, false, not, ◌&&◌, ◌||◌, List, 
 use Rattle.std.specs.Bool.{beq}
 use Rattle.std.specs.List.{filter}
 use Rattle.std.specs.Str.{bytes_eq}
-use Rattle.kp_kore.specs.Syntax.{Text, KoreSort, sort_variable, KoreSorts, no_sorts, next_sort, KorePattern, KorePatterns, variable, application, top, bottom, negation, conjunction, disjunction, implication, equivalence, exists, ceil, floor, equals, membership, no_patterns, next_pattern}
+use Rattle.kp_kore.specs.Syntax.{Text, KoreSort, sort_variable, KoreSorts, no_sorts, next_sort, KorePattern, KorePatterns, variable, application, top, bottom, negation, conjunction, disjunction, implication, equivalence, exists, forall, ceil, floor, equals, membership, no_patterns, next_pattern}
 use Rattle.kp_kore.specs.Attributes.{sorts_equal}
 use Rattle.kp_kore.specs.Hooks.{Comparison, equal, Connective, both, either, implies, same as same_truth, other, Hook, whole_arithmetic, whole_comparison, truth_connective, truth_negation, values_equal, values_different}
 use Rattle.kp_kore.specs.Parts.{SortedName, is_term, free_variables}
@@ -267,11 +267,47 @@ abbrev pub asked_of : KoreSignature → List SortedName → KorePattern → Symb
 asked_of g xs p injection f ss ps = asked_under_inj g xs p ss ps
 asked_of g xs p m f ss ps = asked_constructor g xs p m f ps
 
--- \exists of the bound variables, of the equality of a variable that isn't bound with such an application
+-- the one bound variable, as it stands
+abbrev pub asked_variable : List SortedName → KorePattern → Text → KoreSort → Option HeadQuestion
+asked_variable (x ∷ []) p z t = question_if (are_variables (x ∷ []) (next_sort t no_sorts) (next_pattern (variable z t) no_patterns)) p (head_of_sort t)
+asked_variable xs p z t = None
+
+-- what the other side asks of a term
+abbrev pub asked_side : KoreSignature → List SortedName → KorePattern → KorePattern → Option HeadQuestion
+asked_side g xs p (application f ss ps) = asked_of g xs p (meaning_of g f) f ss ps
+asked_side g xs p (variable z t) = asked_variable xs p z t
+asked_side g xs p r = None
+
+-- what it asks of a variable that isn't bound
+abbrev pub asked_of_variable : KoreSignature → List SortedName → KorePattern → KorePattern → Option HeadQuestion
+asked_of_variable g xs (variable y t) r = if is_named y xs then None else asked_side g xs (variable y t) r
+asked_of_variable g xs p r = None
+
+abbrev pub under_injection : SymbolMeaning → Option HeadQuestion → Option HeadQuestion
+under_injection injection o = o
+under_injection m o = None
+
+-- as it stands or under inj
+abbrev pub question_of_sides : KoreSignature → List SortedName → KorePattern → KorePattern → Option HeadQuestion
+question_of_sides g xs (application f ss (next_pattern p no_patterns)) r = under_injection (meaning_of g f) (asked_of_variable g xs p r)
+question_of_sides g xs p r = asked_of_variable g xs p r
+
+abbrev pub first_question : Option HeadQuestion → Option HeadQuestion → Option HeadQuestion
+first_question (Some q) o = Some q
+first_question None o = o
+
+-- \exists of the bound variables, of an equality that asks it of one of its sides
 abbrev pub head_question : KoreSignature → List SortedName → KorePattern → Option HeadQuestion
 head_question g xs (exists s x t p) = head_question g (xs ++ record { name = x; sort = t } ∷ []) p
-head_question g xs (equals a s (variable y t) (application f ss ps)) = if is_named y xs then None else asked_of g xs (variable y t) (meaning_of g f) f ss ps
+head_question g xs (equals a s p r) = first_question (question_of_sides g xs p r) (question_of_sides g xs r p)
+head_question g xs (membership a s p r) = first_question (question_of_sides g xs p r) (question_of_sides g xs r p)
 head_question g xs p = None
+
+-- \forall of the bound variables, of the opposite of such a question
+abbrev pub denied_question : KoreSignature → List SortedName → KorePattern → Option HeadQuestion
+denied_question g xs (forall s x t p) = denied_question g (xs ++ record { name = x; sort = t } ∷ []) p
+denied_question g xs (negation s p) = head_question g xs p
+denied_question g xs p = None
 
 -- the head of an interpreted call
 abbrev pub head_of_call : Hook → Head
@@ -309,6 +345,11 @@ opened_leaf g rs alone b (exists s x t p) = of_question (head_question g [] (exi
     of_question : Option HeadQuestion → Formula Literal
     of_question (Some q) = opened_test g b q.test (literal_fact b (quotation rs (exists s x t p))) (folded g rs q.subject)
     of_question None = literal_fact b (quotation rs (exists s x t p))
+opened_leaf g rs alone b (forall s x t p) = of_denied (denied_question g [] (forall s x t p))
+  where
+    of_denied : Option HeadQuestion → Formula Literal
+    of_denied (Some q) = opened_test g (not b) q.test (literal_fact b (quotation rs (forall s x t p))) (folded g rs q.subject)
+    of_denied None = literal_fact b (quotation rs (forall s x t p))
 opened_leaf g rs alone b p = literal_fact b (quotation rs p)
 
 -- a predicate, with terms in the place of variables

@@ -67,7 +67,7 @@ pub data Form : Type 0 where
   equates : Bool → TokenPart → TokenPart → Form
   -- the variable's head passes the test, or not
   asks : SortedName → HeadTest → Bool → Form
-  -- the equation of a variable that stands nowhere else
+  -- the equation of a variable that stands in no other clause
   gives : Equation → Form
 
 -- the comparison that holds where this one doesn't
@@ -134,28 +134,50 @@ form_of g l = of_atom l.holds l.atom
 abbrev pub stands_alone : SymbolicState → List (List Literal) → Text → Bool
 stands_alone s others x = not (is_named x (term_variables s.term)) && list_all (λ c. not (is_named x (clause_variables c))) others
 
+-- the variable stands in no other clause; whether clauses can be true doesn't hang on the state's term
+abbrev pub stands_in_none : List (List Literal) → Text → Bool
+stands_in_none others x = list_all (λ c. not (is_named x (clause_variables c))) others
+
 -- a solved equation, but for one of whole numbers that isn't a comparison
 abbrev pub solved_form : KoreSignature → SymbolicState → List (List Literal) → Option Equation → Option Form
-solved_form g s others (Some e) = if has_only_numbers g e.variable.sort || not (stands_alone s others e.variable.name) then None else Some (gives e)
+solved_form g s others (Some e) = if has_only_numbers g e.variable.sort || not (stands_in_none others e.variable.name) then None else Some (gives e)
 solved_form g s others None = None
 
--- a constructor without arguments is its head
-abbrev pub constant_form : SymbolicTerm → SymbolicTerm → Option Form
-constant_form (unknown x) (known (constructed c no_values)) = Some (asks x (one_head c) false)
-constant_form (known (constructed c no_values)) (unknown x) = Some (asks x (one_head c) false)
-constant_form t u = None
+-- a constructor without arguments is its head: equality with it, or its opposite
+abbrev pub constant_form : Bool → SymbolicTerm → SymbolicTerm → Option Form
+constant_form b (unknown x) (known (constructed c no_values)) = Some (asks x (one_head c) b)
+constant_form b (known (constructed c no_values)) (unknown x) = Some (asks x (one_head c) b)
+constant_form b t u = None
 
-abbrev pub head_form : Literal → Option Form
-head_form l = of_atom l.holds l.atom
+-- a call that is true, or false
+abbrev pub head_by_call : Bool → SymbolMeaning → SymbolicTerm → SymbolicTerm → Option Form
+head_by_call b (interpretation values_equal) t u = constant_form b t u
+head_by_call b (interpretation values_different) t u = constant_form (not b) t u
+head_by_call b m t u = None
+
+-- a Boolean expression that is true, or false
+abbrev pub head_by_truth : KoreSignature → Bool → SymbolicTerm → Option Form
+head_by_truth g b (headed f (next_term t (next_term u no_terms))) = head_by_call b (meaning_of g f) t u
+head_by_truth g b t = None
+
+-- equality of two terms, or its opposite
+abbrev pub head_by_sides : KoreSignature → Bool → SymbolicTerm → SymbolicTerm → Option Form
+head_by_sides g b t (known (truth c)) = head_by_truth g (beq b c) t
+head_by_sides g b (known (truth c)) u = head_by_truth g (beq b c) u
+head_by_sides g b t u = constant_form b t u
+
+-- that the head of a variable is one of those that a test asks for, or isn't
+abbrev pub head_form : KoreSignature → Literal → Option Form
+head_form g l = of_atom l.holds l.atom
   where
     of_atom : Bool → Atom → Option Form
     of_atom b (has_head x test) = Some (asks x test b)
-    of_atom false (same s t u) = constant_form t u
-    of_atom b a = None
+    of_atom b (same s t u) = head_by_sides g b t u
+    of_atom b (quoted p rs) = None
 
 -- what a literal says in a clause of its own, beside these others
 abbrev pub own_form : KoreSignature → SymbolicState → List (List Literal) → Literal → Option Form
-own_form g s others l = first_form (form_of g l) (first_form (head_form l) (solved_form g s others (equation_of g (l ∷ []))))
+own_form g s others l = first_form (form_of g l) (first_form (head_form g l) (solved_form g s others (equation_of g (l ∷ []))))
 
 -- ---- the clauses of a state
 

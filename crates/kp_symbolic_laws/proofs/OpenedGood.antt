@@ -19,7 +19,7 @@ use Rattle.kp_symbolic.specs.States.{HeadTest, head_of_sort, variables_for, Lite
 use Rattle.kp_symbolic.specs.WellFormed.{AreAtHand}
 use Rattle.kp_symbolic.specs.Alike.{literals_same}
 use Rattle.kp_symbolic.specs.Folding.{folded}
-use Rattle.kp_symbolic.specs.Opening.{all_if, Leaf, literal_fact, opened, all_opened, is_left, are_variables, question_if, HeadQuestion, asked_constructor, asked_under_inj, asked_of, head_question, opened_same, quotation, opened_ceil, opened_leaf, opened_predicate}
+use Rattle.kp_symbolic.specs.Opening.{all_if, Leaf, literal_fact, opened, all_opened, is_left, are_variables, question_if, HeadQuestion, asked_constructor, asked_under_inj, asked_of, asked_variable, asked_side, question_of_sides, first_question, head_question, denied_question, opened_same, quotation, opened_ceil, opened_test, opened_leaf, opened_predicate}
 use Rattle.kp_symbolic.specs.Clauses.{distributed, without_repeats, is_too_large, quoted_literal, clauses_of_conjunct, literals_of_conjunct, clauses_of_conjuncts}
 use Rattle.kp_symbolic.proofs.Distribution.{all_both, all_first, all_second, kept_are}
 use Rattle.kp_symbolic.proofs.Opened.{IsClosed}
@@ -28,8 +28,8 @@ use Rattle.kp_symbolic.proofs.SortedFolding.{folded_sorted}
 use Rattle.kp_symbolic.proofs.Read.{Stands, StandAll, StandBoth, equals_stand, membership_stands, negation_stands, conjunction_stands, disjunction_stands, implication_stands, equivalence_stands, ceil_stands, floor_stands, first_stands, others_stand, three_tests, two_tests}
 use Rattle.kp_symbolic.proofs.OpenedState.{placed_as_they_are}
 use Rattle.kp_symbolic.proofs.Facts.{AllFacts, AllIn, clauses_have, Good, GoodTerm, opened_same_good}
-use Rattle.kp_symbolic.proofs.Leaf.{asked_formula}
-use Rattle.kp_symbolic.proofs.HeadQuestions.{without_all, all_weaker}
+use Rattle.kp_symbolic.proofs.Leaf.{asked_formula, denied_formula}
+use Rattle.kp_symbolic.proofs.HeadQuestions.{without_all, all_weaker, asked_of_sides, denied_body, denied_asks, denied_variables}
 use Rattle.kp_symbolic_laws.proofs.Keeping.{test_good}
 
 -- ---- what holds of each literal of the leaf holds of each of the whole
@@ -202,9 +202,30 @@ of_subject g xs p construction f ss ps q e = constructor_subject g xs p construc
 of_subject g xs p (interpretation h) f ss ps q e = absurd (none_is_some e)
 of_subject g xs p foreign f ss ps q e = absurd (none_is_some e)
 
-subject_unbound : (g : KoreSignature) (Q : SortedName → Type 0) (xs : List SortedName) (y : SortedName) (b : Bool) (o : Option HeadQuestion) (q : HeadQuestion) → is_named y.name xs ≡ b → (is_named y.name xs ≡ false → Q y) → ((k : HeadQuestion) → o ≡ Some k → k.subject ≡ variable y.name y.sort) → (if b then None else o) ≡ Some q → AllByRecursion Q (free_variables q.subject)
-subject_unbound g Q xs y true o q i h k e = absurd (none_is_some e)
-subject_unbound g Q xs y false o q i h k e = subst (λ p. AllByRecursion Q (free_variables p)) (sym (k q e)) (h i, tt)
+bound_subject : (g : KoreSignature) (xs : List SortedName) (p : KorePattern) (z : Text) (t : KoreSort) (q : HeadQuestion) → asked_variable xs p z t ≡ Some q → q.subject ≡ p
+bound_subject g (x ∷ []) p z t q e = subject_if (are_variables (x ∷ []) (next_sort t no_sorts) (next_pattern (variable z t) no_patterns)) p (head_of_sort t) q e
+bound_subject g [] p z t q e = absurd (none_is_some e)
+bound_subject g (x ∷ y ∷ xs) p z t q e = absurd (none_is_some e)
+
+side_subject : (g : KoreSignature) (xs : List SortedName) (p r : KorePattern) (q : HeadQuestion) → asked_side g xs p r ≡ Some q → q.subject ≡ p
+side_subject g xs p (application f ss ps) q e = of_subject g xs p (meaning_of g f) f ss ps q e
+side_subject g xs p (variable z t) q e = bound_subject g xs p z t q e
+side_subject g xs p r q e = absurd (none_is_some e)
+
+either_subject : (g : KoreSignature) (Q : SortedName → Type 0) (xs : List SortedName) (p r : KorePattern) (q : HeadQuestion) → first_question (question_of_sides g xs p r) (question_of_sides g xs r p) ≡ Some q → AllByRecursion (λ z. is_named z.name xs ≡ false → Q z) (free_variables p ++ free_variables r) → AllByRecursion Q (free_variables q.subject)
+either_subject g Q xs p r q e h = by (question_of_sides g xs p r) refl e
+  where
+    N : SortedName → Type 0
+    N = λ z. is_named z.name xs ≡ false → Q z
+
+    sided : (a b : KorePattern) → question_of_sides g xs a b ≡ Some q → AllByRecursion N (free_variables a) → AllByRecursion Q (free_variables q.subject)
+    sided a b i all =
+        let k = asked_of_sides g xs a b q i in
+        subst (λ c. AllByRecursion Q (free_variables c)) (sym (side_subject g xs (variable k.asked.name k.asked.sort) b q k.from)) ((subst (AllByRecursion N) k.variables all).0 k.unbound, tt)
+
+    by : (o : Option HeadQuestion) → question_of_sides g xs p r ≡ o → first_question o (question_of_sides g xs r p) ≡ Some q → AllByRecursion Q (free_variables q.subject)
+    by (Some k) i c = sided p r (i ∙ c) (all_first N (free_variables p) (free_variables r) h)
+    by None i c = sided r p c (all_second N (free_variables p) (free_variables r) h)
 
 named_either : (x : SortedName) (before : List SortedName) (y : Text) → is_named y (before ++ x ∷ []) ≡ false → (is_named y before ≡ false) × (bytes_eq x.name y ≡ false)
 named_either x [] y e = (refl, (either_false (bytes_eq x.name y) false e).0)
@@ -229,20 +250,29 @@ subject_has g Q xs (exists s x t p) q e a = subject_has g Q (xs ++ record { name
     (all_weaker (λ z. bytes_eq z.name x ≡ false → is_named z.name xs ≡ false → Q z) (λ z. is_named z.name (xs ++ record { name = x; sort = t } ∷ []) ≡ false → Q z) (free_variables p)
     (λ z f n. let k = named_either (record { name = x; sort = t }) xs z.name n in f (turned_test x z.name k.1) k.0)
     (without_all (λ z. is_named z.name xs ≡ false → Q z) x (free_variables p) a))
-subject_has g Q xs (equals a s (variable y t) (application f ss ps)) q e h =
-    subject_unbound g Q xs (record { name = y; sort = t }) (is_named y xs) (asked_of g xs (variable y t) (meaning_of g f) f ss ps) q refl h.0 (λ k i. of_subject g xs (variable y t) (meaning_of g f) f ss ps k i) e
+subject_has g Q xs (equals a s p r) q e h = either_subject g Q xs p r q e h
+subject_has g Q xs (membership a s p r) q e h = either_subject g Q xs p r q e h
 subject_has g Q xs p q e h = absurd (none_is_some e)
+
+-- what is asked of the variable that a question is for
+asked_has : (g : KoreSignature) (hand : List SortedName) (b : Bool) (kept : Formula Literal) (p : KorePattern) (q : HeadQuestion) → head_question g [] p ≡ Some q → AllFacts (Good g hand) kept → AreAtHand (free_variables p) hand → AllFacts (Good g hand) (opened_test g b q.test kept (folded g [] q.subject))
+asked_has g hand b kept p q e k a = test_good g hand b q.test kept (folded g [] q.subject) k
+    (folded_variables g [] (At hand) q.subject (each_itself hand (free_variables q.subject) (subject_has g (At hand) [] p q e (all_weaker (At hand) (λ z. false ≡ false → At hand z) (free_variables p) (λ z c n. c) a))))
 
 question_has : (g : KoreSignature) (hand : List SortedName) (b : Bool) (p : KorePattern) (o : Option HeadQuestion) → head_question g [] p ≡ o → AreAtHand (free_variables p) hand → AllFacts (Good g hand) (asked_formula g [] b p o)
 question_has g hand b p None e a = quotation_has g hand b p a
-question_has g hand b p (Some q) e a = test_good g hand b q.test (literal_fact b (quotation [] p)) (folded g [] q.subject) (quotation_has g hand b p a)
-    (folded_variables g [] (At hand) q.subject (each_itself hand (free_variables q.subject) (subject_has g (At hand) [] p q e (all_weaker (At hand) (λ z. false ≡ false → At hand z) (free_variables p) (λ z c n. c) a))))
+question_has g hand b p (Some q) e a = asked_has g hand b (literal_fact b (quotation [] p)) p q e (quotation_has g hand b p a) a
+
+denied_has : (g : KoreSignature) (hand : List SortedName) (b : Bool) (p : KorePattern) (o : Option HeadQuestion) → denied_question g [] p ≡ o → AreAtHand (free_variables p) hand → AllFacts (Good g hand) (denied_formula g [] b p o)
+denied_has g hand b p None e a = quotation_has g hand b p a
+denied_has g hand b p (Some q) e a = asked_has g hand (not b) (literal_fact b (quotation [] p)) (denied_body p) q (denied_asks g [] p q e) (quotation_has g hand b p a) (subst (λ xs. AreAtHand xs hand) (sym (denied_variables p)) a)
 
 leaf_has : (g : KoreSignature) (hand : List SortedName) → LeafHas (Good g hand) (IsAmong g hand) (opened_leaf g [])
 leaf_has g hand alone b (equals a s p q) l h = sides_have g hand alone b a p q (equals_stand g [] a s p q h.stands) h.predicate (all_first (At hand) (free_variables p) (free_variables q) h.at_hand) (all_second (At hand) (free_variables p) (free_variables q) h.at_hand)
 leaf_has g hand alone b (membership a s p q) l h = sides_have g hand alone b a p q (membership_stands g [] a s p q h.stands) h.predicate (all_first (At hand) (free_variables p) (free_variables q) h.at_hand) (all_second (At hand) (free_variables p) (free_variables q) h.at_hand)
 leaf_has g hand alone b (ceil a s p) l h = ceil_has g hand alone b a s p h l
 leaf_has g hand alone b (exists s x t p) l h = question_has g hand b (exists s x t p) (head_question g [] (exists s x t p)) refl h.at_hand
+leaf_has g hand alone b (forall s x t p) l h = denied_has g hand b (forall s x t p) (denied_question g [] (forall s x t p)) refl h.at_hand
 leaf_has g hand alone b p l h = quotation_has g hand b p h.at_hand
 
 -- ---- clauses

@@ -18,11 +18,11 @@ use Rattle.kp_symbolic.specs.States.{HeadTest, one_head, head_of_sort, Atom, sam
 use Rattle.kp_symbolic.specs.Alike.{terms_same, literals_same}
 use Rattle.kp_symbolic.specs.Heads.{passes_head, head_answer}
 use Rattle.kp_symbolic.specs.Folding.{sum_of, folded}
-use Rattle.kp_symbolic.specs.Opening.{fixed, all_if, pair, literal_fact, is_true, equality_fact, compared_at_once, fixed_or, is_never, unconstructed, is_kept_truth, opened, all_opened, Seen, seen, Seens, none_seen, next_seen, asked, opened_agreement, opened_truths, opened_sides, sorts_of_members, opened_seen, opened_members, common_sort, opened_call, seen_value, seen_values, seen_term, seen_terms, opened_same, are_variables, question_if, HeadQuestion, asked_constructor, asked_under_inj, asked_of, head_question, head_of_call, opened_test, quotation, opened_ceil, opened_leaf, opened_predicate}
+use Rattle.kp_symbolic.specs.Opening.{fixed, all_if, pair, literal_fact, is_true, equality_fact, compared_at_once, fixed_or, is_never, unconstructed, is_kept_truth, opened, all_opened, Seen, seen, Seens, none_seen, next_seen, asked, opened_agreement, opened_truths, opened_sides, sorts_of_members, opened_seen, opened_members, common_sort, opened_call, seen_value, seen_values, seen_term, seen_terms, opened_same, are_variables, question_if, HeadQuestion, asked_constructor, asked_under_inj, asked_of, asked_variable, asked_side, asked_of_variable, under_injection, question_of_sides, first_question, head_question, denied_question, head_of_call, opened_test, quotation, opened_ceil, opened_leaf, opened_predicate}
 use Rattle.kp_symbolic.specs.Clauses.{distributed, without_repeats, is_too_large, quoted_literal, clauses_of_conjunct, literals_of_conjunct, clauses_of_conjuncts}
 use Rattle.kp_symbolic.proofs.Distribution.{all_both, kept_are}
 use Rattle.kp_symbolic.proofs.Facts.{AllFacts, AllIn, clauses_have}
-use Rattle.kp_symbolic.proofs.Leaf.{asked_formula}
+use Rattle.kp_symbolic.proofs.Leaf.{asked_formula, denied_formula}
 use Rattle.kp_symbolic.proofs.KeptFacts.{opened_by}
 use Rattle.kp_symbolic_laws.proofs.Settled.{IsSettledValue, AreSettledValues, IsSettled, AreSettled, ArePutSettled}
 use Rattle.kp_symbolic_laws.proofs.Fit.{IsFit, AreFit, Any, folded_settled}
@@ -230,10 +230,44 @@ unbound_settled : (g : KoreSignature) (b : Bool) (o : Option HeadQuestion) → I
 unbound_settled g true o i = tt
 unbound_settled g false o i = i
 
+bound_settled : (g : KoreSignature) (xs : List SortedName) (p : KorePattern) (z : Text) (t : KoreSort) → IsFit g Any p → IsSettledQuestion g (asked_variable xs p z t)
+bound_settled g (x ∷ []) p z t i = question_settled g (are_variables (x ∷ []) (next_sort t no_sorts) (next_pattern (variable z t) no_patterns)) p (head_of_sort t) i tt
+bound_settled g [] p z t i = tt
+bound_settled g (x ∷ y ∷ xs) p z t i = tt
+
+side_settled : (g : KoreSignature) (xs : List SortedName) (p r : KorePattern) → IsFit g Any p → IsSettledQuestion g (asked_side g xs p r)
+side_settled g xs p (application f ss ps) i = of_settled g xs p (meaning_of g f) f ss ps refl i
+side_settled g xs p (variable z t) i = bound_settled g xs p z t i
+side_settled g xs p r i = tt
+
+variable_settled : (g : KoreSignature) (xs : List SortedName) (p r : KorePattern) → IsSettledQuestion g (asked_of_variable g xs p r)
+variable_settled g xs (variable y t) r = unbound_settled g (is_named y xs) (asked_side g xs (variable y t) r) (side_settled g xs (variable y t) r tt)
+variable_settled g xs p r = tt
+
+injected_settled : (g : KoreSignature) (m : SymbolMeaning) (o : Option HeadQuestion) → IsSettledQuestion g o → IsSettledQuestion g (under_injection m o)
+injected_settled g injection o i = i
+injected_settled g construction o i = tt
+injected_settled g (interpretation h) o i = tt
+injected_settled g foreign o i = tt
+
+asked_sides_settled : (g : KoreSignature) (xs : List SortedName) (p r : KorePattern) → IsSettledQuestion g (question_of_sides g xs p r)
+asked_sides_settled g xs (application f ss (next_pattern p no_patterns)) r = injected_settled g (meaning_of g f) (asked_of_variable g xs p r) (variable_settled g xs p r)
+asked_sides_settled g xs p r = variable_settled g xs p r
+
+either_settled : (g : KoreSignature) (o u : Option HeadQuestion) → IsSettledQuestion g o → IsSettledQuestion g u → IsSettledQuestion g (first_question o u)
+either_settled g (Some q) u i j = i
+either_settled g None u i j = j
+
 asked_question_settled : (g : KoreSignature) (xs : List SortedName) (p : KorePattern) → IsSettledQuestion g (head_question g xs p)
 asked_question_settled g xs (exists s x t p) = asked_question_settled g (xs ++ record { name = x; sort = t } ∷ []) p
-asked_question_settled g xs (equals a s (variable y t) (application f ss ps)) = unbound_settled g (is_named y xs) (asked_of g xs (variable y t) (meaning_of g f) f ss ps) (of_settled g xs (variable y t) (meaning_of g f) f ss ps refl tt)
+asked_question_settled g xs (equals a s p r) = either_settled g (question_of_sides g xs p r) (question_of_sides g xs r p) (asked_sides_settled g xs p r) (asked_sides_settled g xs r p)
+asked_question_settled g xs (membership a s p r) = either_settled g (question_of_sides g xs p r) (question_of_sides g xs r p) (asked_sides_settled g xs p r) (asked_sides_settled g xs r p)
 asked_question_settled g xs p = tt
+
+denied_question_settled : (g : KoreSignature) (xs : List SortedName) (p : KorePattern) → IsSettledQuestion g (denied_question g xs p)
+denied_question_settled g xs (forall s x t p) = denied_question_settled g (xs ++ record { name = x; sort = t } ∷ []) p
+denied_question_settled g xs (negation s p) = asked_question_settled g xs p
+denied_question_settled g xs p = tt
 
 -- ---- predicates without connectives
 
@@ -256,11 +290,16 @@ asked_formula_settled : (g : KoreSignature) (rs : List Replaced) (b : Bool) (p :
 asked_formula_settled g rs b p (Some q) a i j = opened_test_settled g b q.test (literal_fact b (quotation rs p)) (folded g rs q.subject) (quotation_settled g rs p a i) j.1
 asked_formula_settled g rs b p None a i j = quotation_settled g rs p a i
 
+denied_formula_settled : (g : KoreSignature) (rs : List Replaced) (b : Bool) (p : KorePattern) (o : Option HeadQuestion) → ArePutSettled g rs → IsFit g Any p → IsSettledQuestion g o → IsSettledFormula g (denied_formula g rs b p o)
+denied_formula_settled g rs b p (Some q) a i j = opened_test_settled g (not b) q.test (literal_fact b (quotation rs p)) (folded g rs q.subject) (quotation_settled g rs p a i) j.1
+denied_formula_settled g rs b p None a i j = quotation_settled g rs p a i
+
 leaf_settled : (g : KoreSignature) (rs : List Replaced) (alone b : Bool) (p : KorePattern) → ArePutSettled g rs → IsFit g Any p → IsSettledFormula g (opened_leaf g rs alone b p)
 leaf_settled g rs alone b (equals a s p q) h i = opened_same_settled g alone b a (folded g rs p) (folded g rs q) (folded_settled g rs p h i.0) (folded_settled g rs q h i.1)
 leaf_settled g rs alone b (membership a s p q) h i = opened_same_settled g alone b a (folded g rs p) (folded g rs q) (folded_settled g rs p h i.0) (folded_settled g rs q h i.1)
 leaf_settled g rs alone b (ceil a s p) h i = ceil_settled g rs alone b a p h i
 leaf_settled g rs alone b (exists s x t p) h i = asked_formula_settled g rs b (exists s x t p) (head_question g [] (exists s x t p)) h i (asked_question_settled g [] (exists s x t p))
+leaf_settled g rs alone b (forall s x t p) h i = denied_formula_settled g rs b (forall s x t p) (denied_question g [] (forall s x t p)) h i (denied_question_settled g [] (forall s x t p))
 leaf_settled g rs alone b p h i = quotation_settled g rs p h i
 
 mutual
