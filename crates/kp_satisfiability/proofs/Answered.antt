@@ -1,6 +1,6 @@
 -- Which answers are right.
-use Rattle.std.proofs.Common.{arith, Option, ◌≡◌, refl, sym, ap, subst, ◌∙◌, ℕ, ◌≤◌, Bool, true, false, ◌&&◌, List, [], ◌∷◌, ◌++◌, map, length, Some, None}
-use Rattle.std.specs.Prelude.{Vec, Result, Ok, Err, IfOk}
+use Rattle.std.proofs.Common.{arith, Option, ◌≡◌, refl, sym, ap, subst, ◌∙◌, inl, inr, ℕ, ◌≤◌, Bool, true, false, ◌&&◌, List, [], ◌∷◌, ◌++◌, map, length, Some, None}
+use Rattle.std.specs.Prelude.{◌⊎◌, Vec, Result, Ok, Err, IfOk}
 use Rattle.std.specs.List.{AllByRecursion, list_all, list_any, filter}
 use Rattle.std.specs.declared.alloc.Global.{Global}
 use Rattle.std.proofs.lemmas.List.{length-map}
@@ -11,7 +11,7 @@ use Rattle.kp_heads.specs.Heads.{HasValue}
 use Rattle.kp_symbolic.specs.States.{Literal, AreTrue, SymbolicState, CanBeTrue}
 use Rattle.kp_symbolic.specs.Plain.{Form, compares, is_truth, equates, asks, gives, ReadLiteral, read_clause, read_from, read_clauses, is_plain_clause, has_form, plain_part, plain_clauses, rough_clauses}
 use Rattle.kp_kore.specs.Hooks.{equal, different, less, at_most, greater, at_least}
-use Rattle.kp_symbolic.specs.Weights.{IsWeight, IsOver, form_length, clause_length}
+use Rattle.kp_symbolic.specs.Weights.{Weight, IsWeight, IsOver, form_length, clause_length}
 use Rattle.kp_symbolic.specs.Verdicts as model
 use Rattle.kp_symbolic.proofs.Exact.{by_plain_can}
 use Rattle.kp_literals.specs.Readings.{clauses_view}
@@ -50,10 +50,14 @@ none_right g s n = record { verdict = model.no_valuation; right = n; is_told = t
 open_right : (g : KoreSignature) (s : SymbolicState) (a : Verdict) (shown : List (List Literal)) → CanBeTrue g s.variables (plain_clauses g s) → ¬ CanBeTrue g s.variables (map plain_part (read_clauses g s)) → shown ≡ rough_clauses g s → IsToldAs (model.undecided shown None) a → IsRightAnswer g s a
 open_right g s a shown plain none e told = record { verdict = model.undecided shown None; right = record { plain = plain; none_by_plain = none; shown_are = e }; is_told = told }
 
-heavy_right : (g : KoreSignature) (s : SymbolicState) (a : Verdict) (w : Weighed) (n : ℕ) → IsOver (weight_view w.weight) (read_clauses g s) n → w.number ≡ told n → ShowsOver s.clauses w a → IsRightAnswer g s a
-heavy_right g s a w n over e shows =
+-- the plain clauses pass the weight, or can be true
+abbrev ArePlainFirst : KoreSignature → SymbolicState → Weight → Type 0
+ArePlainFirst g s w = ((n : ℕ) × IsOver w (filter is_plain_clause (read_clauses g s)) n) ⊎ CanBeTrue g s.variables (plain_clauses g s)
+
+heavy_right : (g : KoreSignature) (s : SymbolicState) (a : Verdict) (w : Weighed) (n : ℕ) → IsOver (weight_view w.weight) (read_clauses g s) n → ArePlainFirst g s (weight_view w.weight) → w.number ≡ told n → ShowsOver s.clauses w a → IsRightAnswer g s a
+heavy_right g s a w n over first e shows =
     let m : model.Weighed = record { weight = weight_view w.weight; number = n } in
-    record { verdict = model.undecided s.clauses (Some m); right = record { over = over; shown_are = refl }; is_told = shows m (refl, e) }
+    record { verdict = model.undecided s.clauses (Some m); right = record { over = over; shown_are = refl; plain_first = first }; is_told = shows m (refl, e) }
 
 -- ---- no clause is empty
 
@@ -140,8 +144,8 @@ pub open_where_none_plain : (g : KoreSignature) (s : SymbolicState) (cs : Clause
 open_where_none_plain g s cs a shows e k plain =
     open_right g s a (rough_in (clauses_view cs)) plain (none_by_plain g s (subst (λ rs. list_all (λ c. list_any has_form c) rs ≡ false) k.read e)) (ap rough_in k.read) shows
 
-pub heavy_where_over : (g : KoreSignature) (s : SymbolicState) (cs : Clauses) (a : Verdict) (w : Weighed) → ShowsOver s.clauses w a → IsFirstOver (clauses_view cs) w → AreReadOf g s cs → IsRightAnswer g s a
-heavy_where_over g s cs a w shows first k = heavy_right g s a w first.number (subst (λ rs. IsOver (weight_view w.weight) rs first.number) k.read first.over) first.told_is shows
+pub heavy_where_over : (g : KoreSignature) (s : SymbolicState) (cs : Clauses) (a : Verdict) (w : Weighed) → ShowsOver s.clauses w a → IsFirstOver (clauses_view cs) w → AreReadOf g s cs → CanBeTrue g s.variables (plain_clauses g s) → IsRightAnswer g s a
+heavy_where_over g s cs a w shows first k plain = heavy_right g s a w first.number (subst (λ rs. IsOver (weight_view w.weight) rs first.number) k.read first.over) (inr plain) first.told_is shows
 
 -- ---- by the plain clauses
 
@@ -178,7 +182,7 @@ heavy_where_plain g s cs ps a over w p shows first kind tells k =
     let some : AreSome rs = all_map IsSome (λ c. 1 ≤ clause_length c) rs longer (all_some g s [] s.clauses k.literals) in
     let part : IsOver (weight_view w.weight) (filter is_plain_clause rs) first.number = subst (λ o. IsOver (weight_view o) (filter is_plain_clause rs) first.number) (sym kind) (subst (λ ds. IsOver (weight_view over.weight) ds first.number) (p.view ∙ ap (filter is_plain_clause) k.read) first.over) in
     let weighs = subst (λ ds. IsWeight (weight_view w.weight) ds tells.weight) k.read tells.weighs in
-    heavy_right g s a w tells.weight (over_all (weight_view w.weight) is_plain_clause rs first.number tells.weight some part weighs) tells.told_is shows
+    heavy_right g s a w tells.weight (over_all (weight_view w.weight) is_plain_clause rs first.number tells.weight some part weighs) (inl (first.number, part)) tells.told_is shows
 
 -- ---- results
 

@@ -1,9 +1,10 @@
 -- What may be answered to the question whether a state's clauses can be true.
 -- Source: satisfiability of clauses; which clauses are left undecided is this project's choice.
-use Rattle.std.specs.Prelude.{◌≡◌, ℕ, List, map, Option, Some, None}
+use Rattle.std.specs.Prelude.{◌≡◌, ◌⊎◌, ℕ, List, map, Option, Some, None}
+use Rattle.std.specs.List.{filter}
 use Rattle.kp_kore.specs.Signature.{KoreSignature}
 use Rattle.kp_symbolic.specs.States.{Literal, SymbolicState, CanBeTrue}
-use Rattle.kp_symbolic.specs.Plain.{read_clauses, plain_part, plain_clauses, rough_clauses}
+use Rattle.kp_symbolic.specs.Plain.{read_clauses, is_plain_clause, plain_part, plain_clauses, rough_clauses}
 use Rattle.kp_symbolic.specs.Weights.{Weight, IsOver}
 
 -- a weight with its number
@@ -22,10 +23,11 @@ pub record IsStateUndecided (g : KoreSignature) (s : SymbolicState) (shown : Lis
   pub none_by_plain : ¬ CanBeTrue g s.variables (map plain_part (read_clauses g s))
   pub shown_are : shown ≡ rough_clauses g s
 
--- The clauses weigh more than is decided; all are shown.
+-- The clauses weigh more than is decided; all are shown. Those that are plain do so too, or can be true: they are asked first.
 pub record IsTooHeavy (g : KoreSignature) (s : SymbolicState) (shown : List (List Literal)) (h : Weighed) : Type 0 where
   pub over : IsOver h.weight (read_clauses g s) h.number
   pub shown_are : shown ≡ s.clauses
+  pub plain_first : ((n : ℕ) × IsOver h.weight (filter is_plain_clause (read_clauses g s)) n) ⊎ CanBeTrue g s.variables (plain_clauses g s)
 
 abbrev pub IsRightVerdict : KoreSignature → SymbolicState → Verdict → Type 0
 IsRightVerdict g s some_valuation = CanBeTrue g s.variables s.clauses

@@ -18,7 +18,7 @@ pub returns-in-Some : goal.returns-in-Some
 returns-in-Some c =
     let first = subst (TellsOver (clauses_view c.args.clauses.now)) c.in-Some.is c.in_ok-over.ensures in
     if_ok c.too_heavy.result _ _
-    (λ a shows k p. heavy_where_over (signature_view c.args.signature.now) (state_view c.args.state.now) c.args.clauses.now a c.in-Some.over shows first k)
+    (λ a shows k p. heavy_where_over (signature_view c.args.signature.now) (state_view c.args.state.now) c.args.clauses.now a c.in-Some.over shows first k p)
     c.too_heavy.ensures
 
 pub can_be_met_together-requires : goal.can_be_met_together-requires
