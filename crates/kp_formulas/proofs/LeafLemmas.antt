@@ -1,12 +1,12 @@
 -- \ceil of a conjunction: of two members their equality.
-use Rattle.std.proofs.Common.{◌≡◌, refl, sym, subst, ap₂, Bool, List, [], ◌∷◌, length, get_or}
-use Rattle.kp_kore.specs.Syntax.{Text, KoreSort, KorePattern, conjunction, exists}
+use Rattle.std.proofs.Common.{◌≡◌, refl, sym, subst, ap₂, Bool, not, List, [], ◌∷◌, length, get_or}
+use Rattle.kp_kore.specs.Syntax.{Text, KoreSort, KorePattern, conjunction, exists, forall}
 use Rattle.kp_kore.specs.Signature.{KoreSignature}
 use Rattle.kp_kore.specs.View.{view, patterns_view}
 use Rattle.kp_kore.specs.declared.pattern.Pattern.{Pattern}
 use Rattle.kp_symbolic.specs.Formulas.{Formula}
 use Rattle.kp_symbolic.specs.Folding.{folded}
-use Rattle.kp_symbolic.specs.Opening.{opened_ceil, opened_same, opened_leaf, head_question, fixed}
+use Rattle.kp_symbolic.specs.Opening.{opened_ceil, opened_same, opened_leaf, head_question, denied_question, fixed}
 use Rattle.kp_symbolic.specs.States.{Literal}
 use Rattle.kp_symbolic.specs.Terms.{Replaced}
 use Rattle.kp_formulas.specs.Leaves.{opened_question}
@@ -30,5 +30,9 @@ two_members g rs alone b a s (r ∷ t ∷ u ∷ ps) p q n e d = absurd (cc)
 -- ---- a quantified predicate, by the question that it asks
 
 pub asked_exists : (g : KoreSignature) (rs : List Replaced) (alone b : Bool) (p : KorePattern) (s : KoreSort) (x : Text) (t : KoreSort) (q : KorePattern) → p ≡ exists s x t q →
-    opened_question g rs b p (head_question g [] p) ≡ opened_leaf g rs alone b p
-asked_exists g rs alone b p s x t q is = subst (λ y. opened_question g rs b y (head_question g [] y) ≡ opened_leaf g rs alone b y) (sym is) refl
+    opened_question g rs b b p (head_question g [] p) ≡ opened_leaf g rs alone b p
+asked_exists g rs alone b p s x t q is = subst (λ y. opened_question g rs b b y (head_question g [] y) ≡ opened_leaf g rs alone b y) (sym is) refl
+
+pub asked_forall : (g : KoreSignature) (rs : List Replaced) (alone b : Bool) (p : KorePattern) (s : KoreSort) (x : Text) (t : KoreSort) (q : KorePattern) → p ≡ forall s x t q →
+    opened_question g rs (not b) b p (denied_question g [] p) ≡ opened_leaf g rs alone b p
+asked_forall g rs alone b p s x t q is = subst (λ y. opened_question g rs (not b) b y (denied_question g [] y) ≡ opened_leaf g rs alone b y) (sym is) refl

@@ -9,7 +9,7 @@ use Rattle.kp_kore.specs.View.{view, patterns_view, sort_view, sorts_view}
 use Rattle.kp_kore.specs.declared.pattern.Pattern.{Pattern}
 use Rattle.kp_kore.specs.declared.sort.Sort.{Sort}
 use Rattle.kp_kore.specs.Instance.{is_named}
-use Rattle.kp_symbolic.specs.Opening.{HeadQuestion, are_variables, question_if, asked_constructor, asked_under_inj}
+use Rattle.kp_symbolic.specs.Opening.{HeadQuestion, are_variables, question_if, asked_constructor, asked_under_inj, asked_variable, asked_of_variable, under_injection, question_of_sides}
 use Rattle.kp_symbolic.specs.States.{head_of_sort}
 use Rattle.kp_formulas.specs.Answers.{is_variable_at, asked_sort}
 use Rattle.kp_formulas.specs.LeafView.{bound_view}
@@ -131,6 +131,14 @@ pub sort_not_asked : (xs : List BoundVariable) (p : KorePattern) (ss : List Sort
     None ≡ asked_sort (map bound_view xs) p (sorts_view ss) q
 sort_not_asked xs p ss q x s e n d c is = sym (ap (λ b. question_if b p (head_of_sort (sort_view s))) is) ∙ asked_by xs p ss q x s e n d c
 
+pub variable_asked : (xs : List BoundVariable) (p q : KorePattern) (x : BoundVariable) (s : Sort) → length xs ≡ 1 → x ≡ get_or xs 0 x → is_variable_at (bound_view x) (sort_view s) q ≡ true →
+    Some (record { subject = p; test = head_of_sort (sort_view s) }) ≡ asked_sort (map bound_view xs) p (next_sort (sort_view s) no_sorts) q
+variable_asked xs p q x s e d is = sort_asked xs p (s ∷ []) q x s e (λ n. absurd (cc)) d refl is
+
+pub variable_not_asked : (xs : List BoundVariable) (p q : KorePattern) (x : BoundVariable) (s : Sort) → length xs ≡ 1 → x ≡ get_or xs 0 x → is_variable_at (bound_view x) (sort_view s) q ≡ false →
+    None ≡ asked_sort (map bound_view xs) p (next_sort (sort_view s) no_sorts) q
+variable_not_asked xs p q x s e d is = sort_not_asked xs p (s ∷ []) q x s e (λ n. absurd (cc)) d refl is
+
 abbrev pub is_application : KorePattern → Bool
 is_application (application f ts ps) = true
 is_application p = false
@@ -173,3 +181,21 @@ pub not_one_argument : (g : KoreSignature) (xs : List SortedName) (p : KorePatte
 not_one_argument g xs p ss [] n = no_arguments g xs p ss
 not_one_argument g xs p ss (a ∷ []) n = absurd (n refl)
 not_one_argument g xs p ss (a ∷ b ∷ qs) n = two_arguments g xs p ss (view a) (view b) (patterns_view qs)
+
+-- ---- the other side
+
+pub same_variable : (xs : List SortedName) (p : KorePattern) (z : Text) (t : KoreSort) → asked_sort xs p (next_sort t no_sorts) (variable z t) ≡ asked_variable xs p z t
+same_variable [] p z t = refl
+same_variable (x ∷ []) p z t = ap (λ b. question_if b p (head_of_sort t)) (with_both (is_variable_at x t (variable z t)) ∙ sym (one_variable x [] t no_sorts (variable z t) no_patterns))
+same_variable (x ∷ y ∷ xs) p z t = refl
+
+pub one_injected : (g : KoreSignature) (xs : List SortedName) (f : Text) (ss : KoreSorts) (qs : List Pattern) (q : Pattern) (r : KorePattern) → length qs ≡ 1 → q ≡ get_or qs 0 q →
+    under_injection (meaning_of g f) (asked_of_variable g xs (view q) r) ≡ question_of_sides g xs (application f ss (patterns_view qs)) r
+one_injected g xs f ss [] q r e d = absurd (cc)
+one_injected g xs f ss (a ∷ []) q r e d = ap (λ x. under_injection (meaning_of g f) (asked_of_variable g xs (view x) r)) d
+one_injected g xs f ss (a ∷ b ∷ qs) q r e d = absurd (cc)
+
+pub not_one_injected : (g : KoreSignature) (xs : List SortedName) (f : Text) (ss : KoreSorts) (qs : List Pattern) (r : KorePattern) → (length qs ≡ 1 → ⊥) → None ≡ question_of_sides g xs (application f ss (patterns_view qs)) r
+not_one_injected g xs f ss [] r n = refl
+not_one_injected g xs f ss (a ∷ []) r n = absurd (n refl)
+not_one_injected g xs f ss (a ∷ b ∷ qs) r n = refl

@@ -9,10 +9,10 @@ use Rattle.kp_symbolic.specs.States.{Literal}
 use Rattle.kp_symbolic.specs.Terms.{Replaced}
 use Rattle.kp_symbolic.specs.Faultless.{IsFaultless}
 
--- a predicate that asks for a head, if it does, else as it stands
-abbrev pub opened_question : KoreSignature → List Replaced → Bool → KorePattern → Option HeadQuestion → Formula Literal
-opened_question g rs b p (Some q) = opened_test g b q.test (literal_fact b (quotation rs p)) (folded g rs q.subject)
-opened_question g rs b p None = literal_fact b (quotation rs p)
+-- a predicate that asks for a head, if it does, with the sign of what it asks; else as it stands
+abbrev pub opened_question : KoreSignature → List Replaced → Bool → Bool → KorePattern → Option HeadQuestion → Formula Literal
+opened_question g rs asked b p (Some q) = opened_test g asked q.test (literal_fact b (quotation rs p)) (folded g rs q.subject)
+opened_question g rs asked b p None = literal_fact b (quotation rs p)
 
 -- the term that is asked for its head, if there is one, has no verify faults
 abbrev pub IsFaultlessQuestion : KoreSignature → Option HeadQuestion → Type 0

@@ -1,5 +1,5 @@
 // A predicate without connectives, opened with a sign.
-ghost use Rattle.std.specs.Prelude.{◌≡◌, [], Some, IfOk, IfErr, map};
+ghost use Rattle.std.specs.Prelude.{◌≡◌, not, [], Some, IfOk, IfErr, map};
 ghost use Rattle.std.specs.List.{AllByRecursion};
 ghost use Rattle.std.specs.Option.{option_map};
 ghost use Rattle.kp_compile.specs.declared.error.CompileError.TheVariants.{Memory};
@@ -17,7 +17,7 @@ ghost use Rattle.kp_formulas.specs.LeafView.{question_view};
 
 use crate::formula::make_fixed;
 use crate::head_test::open_test;
-use crate::question::{HeadQuestion, head_question};
+use crate::question::{HeadQuestion, denied_question, head_question};
 use crate::quotation::quoted_literal;
 use crate::{Formula, open_same};
 use kp_compile::CompileError;
@@ -127,20 +127,21 @@ fn open_defined(
     )
 }
 
-/// A question for a head, where there is one, else the predicate as it stands.
+/// A question for a head, where there is one, with the sign of what it asks, else the predicate as it stands.
 fn open_question(
     alloc: Global,
     language: &Language,
     replaced: &[Replaced],
+    asked: bool,
     sign: bool,
     pattern: &Pattern,
     question: &Option<HeadQuestion<'_>>,
 ) -> Result<Formula, CompileError>
-    ensures opened { let g = language_view language.now in let question' = option_map question_view question.now in IfOk result (λ f. formula_view f ≡ opened_question g (map replaced_view replaced.now) sign (view pattern.now) question') }
+    ensures opened { let g = language_view language.now in let question' = option_map question_view question.now in IfOk result (λ f. formula_view f ≡ opened_question g (map replaced_view replaced.now) asked sign (view pattern.now) question') }
     ensures refused { IfErr result (λ e. IsFaultlessQuestion (language_view language.now) (option_map question_view question.now) → e ≡ Memory) }
 {
     match question {
-        Some(question) => open_asked(alloc, language, replaced, sign, pattern, question),
+        Some(question) => open_asked(alloc, language, replaced, asked, sign, pattern, question),
         None => Ok(open_quoted(alloc, replaced, sign, pattern)?),
     }
 }
@@ -150,11 +151,12 @@ fn open_asked(
     alloc: Global,
     language: &Language,
     replaced: &[Replaced],
+    asked: bool,
     sign: bool,
     pattern: &Pattern,
     question: &HeadQuestion<'_>,
 ) -> Result<Formula, CompileError>
-    ensures opened { let g = language_view language.now in let question' = question_view question.now in IfOk result (λ f. formula_view f ≡ opened_question g (map replaced_view replaced.now) sign (view pattern.now) (Some question')) }
+    ensures opened { let g = language_view language.now in let question' = question_view question.now in IfOk result (λ f. formula_view f ≡ opened_question g (map replaced_view replaced.now) asked sign (view pattern.now) (Some question')) }
     ensures refused { IfErr result (λ e. IsFaultlessQuestion (language_view language.now) (Some (question_view question.now)) → e ≡ Memory) }
 {
     let term = term_under(question.subject, alloc, language, replaced)?;
@@ -162,6 +164,7 @@ fn open_asked(
         alloc,
         language.signature,
         replaced,
+        asked,
         sign,
         pattern,
         &question.test,
@@ -174,20 +177,21 @@ fn ask(
     alloc: Global,
     signature: &Signature,
     replaced: &[Replaced],
+    asked: bool,
     sign: bool,
     pattern: &Pattern,
     test: &HeadTest,
     term: Term,
 ) -> Result<Formula, AllocError>
-    ensures { let g = signature_view signature.now in IfOk result (λ f. formula_view f ≡ model.opened_test g sign (test_view test.now) (model.literal_fact sign (model.quotation (map replaced_view replaced.now) (view pattern.now))) (term_view term)) }
+    ensures { let g = signature_view signature.now in IfOk result (λ f. formula_view f ≡ model.opened_test g asked (test_view test.now) (model.literal_fact sign (model.quotation (map replaced_view replaced.now) (view pattern.now))) (term_view term)) }
 {
     match quoted_literal(alloc, replaced, sign, pattern) {
-        Ok(kept) => open_test(alloc, signature, sign, test, &kept, &term),
+        Ok(kept) => open_test(alloc, signature, asked, test, &kept, &term),
         Err(error) => Err(error),
     }
 }
 
-/// A quantified predicate.
+/// A predicate under \exists.
 fn open_exists(
     alloc: Global,
     language: &Language,
@@ -195,11 +199,26 @@ fn open_exists(
     sign: bool,
     pattern: &Pattern,
 ) -> Result<Formula, CompileError>
-    ensures opened { let g = language_view language.now in let pattern' = view pattern.now in IfOk result (λ f. formula_view f ≡ opened_question g (map replaced_view replaced.now) sign pattern' (model.head_question g [] pattern')) }
+    ensures opened { let g = language_view language.now in let pattern' = view pattern.now in IfOk result (λ f. formula_view f ≡ opened_question g (map replaced_view replaced.now) sign sign pattern' (model.head_question g [] pattern')) }
     ensures refused { IfErr result (λ e. IsFaultless (language_view language.now) (view pattern.now) → e ≡ Memory) }
 {
     let question = head_question(pattern, alloc, language.signature, Vec::new(alloc))?;
-    open_question(alloc, language, replaced, sign, pattern, &question)
+    open_question(alloc, language, replaced, sign, sign, pattern, &question)
+}
+
+/// A predicate under \forall.
+fn open_forall(
+    alloc: Global,
+    language: &Language,
+    replaced: &[Replaced],
+    sign: bool,
+    pattern: &Pattern,
+) -> Result<Formula, CompileError>
+    ensures opened { let g = language_view language.now in let pattern' = view pattern.now in IfOk result (λ f. formula_view f ≡ opened_question g (map replaced_view replaced.now) (not sign) sign pattern' (model.denied_question g [] pattern')) }
+    ensures refused { IfErr result (λ e. IsFaultless (language_view language.now) (view pattern.now) → e ≡ Memory) }
+{
+    let question = denied_question(pattern, alloc, language.signature, Vec::new(alloc))?;
+    open_question(alloc, language, replaced, !sign, sign, pattern, &question)
 }
 
 /// A predicate that isn't opened.
@@ -268,6 +287,7 @@ pub fn open_leaf(
             )
         }
         Pattern::Exists { .. } => open_exists(alloc, language, replaced, sign, pattern),
+        Pattern::Forall { .. } => open_forall(alloc, language, replaced, sign, pattern),
         _ => Ok(open_quoted(alloc, replaced, sign, pattern)?),
     }
 }

@@ -1,7 +1,7 @@
 // A question for the head of a term, as a quantified equality asks it.
 ghost use Rattle.std.specs.Prelude.{◌≡◌, IfOk, map, string_bytes};
 ghost use Rattle.std.specs.Option.{option_map};
-ghost use Rattle.kp_kore.specs.Syntax.{KoreSort, equals, no_patterns, next_pattern};
+ghost use Rattle.kp_kore.specs.Syntax.{no_sorts, next_sort, application, no_patterns, next_pattern};
 ghost use Rattle.kp_kore.specs.View.{view, sort_view, sorts_view, patterns_view};
 ghost use Rattle.kp_signature.specs.Meanings.{meaning_view};
 ghost use Rattle.kp_kore.specs.Instance.{is_named as named_among};
@@ -205,31 +205,140 @@ fn ask_application<'a>(
     }
 }
 
-/// The question that an equality asks under these bound variables.
+/// The question for a head of the bound variable's sort, as that variable asks it.
+#[tactic(auto, using(crate::proofs::QuestionLemmas::not_one_bound, crate::proofs::QuestionLemmas::variable_asked, crate::proofs::QuestionLemmas::variable_not_asked))]
+fn ask_variable<'a>(
+    alloc: Global,
+    bound: &[BoundVariable<'_>],
+    subject: &'a Pattern,
+    sort: &Sort,
+    side: &Pattern,
+) -> Result<Option<HeadQuestion<'a>>, AllocError>
+    ensures { let bound' = map bound_view bound.now in let own = next_sort (sort_view sort.now) no_sorts in IfOk result (λ q. option_map question_view q ≡ asked_sort bound' (view subject.now) own (view side.now)) }
+{
+    if bound.len() != 1 {
+        return Ok(None);
+    }
+    if is_variable(side, bound[0], sort) {
+        let test = sort_test(alloc, sort)?;
+        return Ok(Some(HeadQuestion { subject, test }));
+    }
+    Ok(None)
+}
+
+/// The question that the other side of an equality asks of this one.
+fn ask_side<'a>(
+    alloc: Global,
+    signature: &Signature,
+    bound: &[BoundVariable<'_>],
+    subject: &'a Pattern,
+    side: &Pattern,
+) -> Result<Option<HeadQuestion<'a>>, AllocError>
+    ensures { let g = signature_view signature.now in let bound' = map bound_view bound.now in IfOk result (λ q. option_map question_view q ≡ model.asked_side g bound' (view subject.now) (view side.now)) }
+{
+    match side {
+        Pattern::Application {
+            symbol,
+            sorts,
+            arguments,
+        } => ask_application(alloc, signature, bound, subject, symbol, sorts, arguments),
+        Pattern::Variable { sort, .. } => ask_variable(alloc, bound, subject, sort, side),
+        _ => Ok(None),
+    }
+}
+
+/// The question that it asks of a variable that isn't bound.
+fn ask_unbound<'a>(
+    alloc: Global,
+    signature: &Signature,
+    bound: &[BoundVariable<'_>],
+    subject: &'a Pattern,
+    side: &Pattern,
+) -> Result<Option<HeadQuestion<'a>>, AllocError>
+    ensures { let g = signature_view signature.now in let bound' = map bound_view bound.now in IfOk result (λ q. option_map question_view q ≡ model.asked_of_variable g bound' (view subject.now) (view side.now)) }
+{
+    match subject {
+        Pattern::Variable { name, .. } => {
+            if is_bound(name, bound) {
+                return Ok(None);
+            }
+            ask_side(alloc, signature, bound, subject, side)
+        }
+        _ => Ok(None),
+    }
+}
+
+/// The question that it asks of the argument of a symbol that is inj.
+fn ask_injected<'a>(
+    alloc: Global,
+    signature: &Signature,
+    bound: &[BoundVariable<'_>],
+    meaning: Meaning,
+    argument: &'a Pattern,
+    side: &Pattern,
+) -> Result<Option<HeadQuestion<'a>>, AllocError>
+    ensures { let g = signature_view signature.now in let bound' = map bound_view bound.now in IfOk result (λ q. option_map question_view q ≡ model.under_injection (meaning_view meaning) (model.asked_of_variable g bound' (view argument.now) (view side.now))) }
+{
+    match meaning {
+        Meaning::Injection => ask_unbound(alloc, signature, bound, argument, side),
+        Meaning::Constructor | Meaning::Interpreted(_) | Meaning::Foreign => Ok(None),
+    }
+}
+
+/// The question that it asks of a symbol's application.
+#[tactic(auto, using(crate::proofs::QuestionLemmas::one_injected, crate::proofs::QuestionLemmas::not_one_injected))]
+fn ask_under<'a>(
+    alloc: Global,
+    signature: &Signature,
+    bound: &[BoundVariable<'_>],
+    symbol: &Name,
+    sorts: &[Sort],
+    arguments: &'a [Pattern],
+    side: &Pattern,
+) -> Result<Option<HeadQuestion<'a>>, AllocError>
+    ensures { let g = signature_view signature.now in let bound' = map bound_view bound.now in IfOk result (λ q. option_map question_view q ≡ model.question_of_sides g bound' (application (string_bytes symbol.now) (sorts_view sorts.now) (patterns_view arguments.now)) (view side.now)) }
+{
+    if arguments.len() == 1 {
+        let meaning = meaning_of(signature, symbol);
+        return ask_injected(alloc, signature, bound, meaning, &arguments[0], side);
+    }
+    Ok(None)
+}
+
+/// The question that the other side asks of a variable that isn't bound, as it stands or under inj.
+fn ask_sides<'a>(
+    alloc: Global,
+    signature: &Signature,
+    bound: &[BoundVariable<'_>],
+    subject: &'a Pattern,
+    side: &Pattern,
+) -> Result<Option<HeadQuestion<'a>>, AllocError>
+    ensures { let g = signature_view signature.now in let bound' = map bound_view bound.now in IfOk result (λ q. option_map question_view q ≡ model.question_of_sides g bound' (view subject.now) (view side.now)) }
+{
+    match subject {
+        Pattern::Application {
+            symbol,
+            sorts,
+            arguments,
+        } => ask_under(alloc, signature, bound, symbol, sorts, arguments, side),
+        Pattern::Variable { .. } => ask_unbound(alloc, signature, bound, subject, side),
+        _ => Ok(None),
+    }
+}
+
+/// The question that an equality asks under these bound variables: of the one side, else of the other.
 fn ask_equality<'a>(
     alloc: Global,
     signature: &Signature,
     bound: &[BoundVariable<'_>],
     left: &'a Pattern,
-    right: &Pattern,
+    right: &'a Pattern,
 ) -> Result<Option<HeadQuestion<'a>>, AllocError>
-    ensures { let g = signature_view signature.now in let bound' = map bound_view bound.now in (a s : KoreSort) → IfOk result (λ q. option_map question_view q ≡ model.head_question g bound' (equals a s (view left.now) (view right.now))) }
+    ensures { let g = signature_view signature.now in let bound' = map bound_view bound.now in let left' = view left.now in let right' = view right.now in IfOk result (λ q. option_map question_view q ≡ model.first_question (model.question_of_sides g bound' left' right') (model.question_of_sides g bound' right' left')) }
 {
-    match left {
-        Pattern::Variable { name, .. } => match right {
-            Pattern::Application {
-                symbol,
-                sorts,
-                arguments,
-            } => {
-                if is_bound(name, bound) {
-                    return Ok(None);
-                }
-                ask_application(alloc, signature, bound, left, symbol, sorts, arguments)
-            }
-            _ => Ok(None),
-        },
-        _ => Ok(None),
+    match ask_sides(alloc, signature, bound, left, right)? {
+        Some(question) => Ok(Some(question)),
+        None => ask_sides(alloc, signature, bound, right, left),
     }
 }
 
@@ -257,6 +366,35 @@ pub fn head_question<'a>(
             head_question(pattern, alloc, signature, bound)
         }
         Pattern::Equals { left, right, .. } => ask_equality(alloc, signature, &bound, left, right),
+        Pattern::In { left, right, .. } => ask_equality(alloc, signature, &bound, left, right),
+        _ => Ok(None),
+    }
+}
+
+/// The question for a head whose opposite a pattern under \forall says, under these bound variables.
+#[cycle(denied)]
+pub fn denied_question<'a>(
+    pattern: &'a Pattern,
+    alloc: Global,
+    signature: &Signature,
+    mut bound: Vec<BoundVariable<'a>>,
+) -> Result<Option<HeadQuestion<'a>>, AllocError>
+    ensures { IfOk result (λ q. option_map question_view q ≡ model.denied_question (signature_view signature.now) (map bound_view bound.entry.items) (view pattern.now)) }
+{
+    match pattern {
+        Pattern::Forall {
+            name,
+            name_sort,
+            pattern,
+            ..
+        } => {
+            bound.push(BoundVariable {
+                name,
+                sort: name_sort,
+            })?;
+            denied_question(pattern, alloc, signature, bound)
+        }
+        Pattern::Not { pattern, .. } => head_question(pattern, alloc, signature, bound),
         _ => Ok(None),
     }
 }
