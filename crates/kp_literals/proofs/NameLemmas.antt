@@ -7,7 +7,7 @@ use Rattle.kp_kore.specs.Parts.{SortedName}
 use Rattle.kp_kore.specs.Instance.{is_named}
 use Rattle.kp_symbolic.specs.States.{Literal, clause_variables, SymbolicState}
 use Rattle.kp_symbolic.specs.Terms.{term_variables}
-use Rattle.kp_symbolic.specs.Plain.{stands_alone}
+use Rattle.kp_symbolic.specs.Plain.{stands_alone, stands_in_none}
 use Rattle.kp_literals.specs.Names.{is_named_in}
 
 or_behind : (a b c : Bool) → (a || b) || c ≡ a || (b || c)
@@ -29,6 +29,9 @@ none_named x (c ∷ cs) = by (is_named x (clause_variables c)) refl (none_named 
 in_both : (x : Text) (before after : List (List Literal)) → is_named_in x (before ++ after) ≡ (is_named_in x before || is_named_in x after)
 in_both x [] after = refl
 in_both x (c ∷ cs) after = rw (in_both x cs after) (sym (or_behind (is_named x (clause_variables c)) (is_named_in x cs) (is_named_in x after)))
+
+pub in_none_by : (before after : List (List Literal)) (x : Text) (b a : Bool) → b ≡ is_named_in x before → a ≡ is_named_in x after → stands_in_none (before ++ after) x ≡ not (b || a)
+in_none_by before after x b a f h = none_named x (before ++ after) ∙ ap not (in_both x before after) ∙ ap (λ b. not (b || is_named_in x after)) (sym f) ∙ ap (λ a. not (b || a)) (sym h)
 
 pub alone_by : (s : SymbolicState) (before after : List (List Literal)) (x : Text) (t b a : Bool) → t ≡ is_named x (term_variables s.term) → b ≡ is_named_in x before → a ≡ is_named_in x after →
     stands_alone s (before ++ after) x ≡ (not t && not (b || a))

@@ -1,5 +1,5 @@
 -- Constructors without arguments, the questions that they are, and what is asked of no unknown.
-use Rattle.std.specs.Prelude.{false, Option, Some, None, ⊤}
+use Rattle.std.specs.Prelude.{Bool, Option, Some, None, ⊤}
 use Rattle.kp_kore.specs.Syntax.{Text}
 use Rattle.kp_kore.specs.Parts.{SortedName}
 use Rattle.kp_kore.specs.Value.{Value, constructed, no_values}
@@ -18,10 +18,10 @@ abbrev pub constant_known : SymbolicTerm → Option Text
 constant_known (known u) = constant_said u
 constant_known _ = None
 
--- the variable's head isn't this constructor
-abbrev pub asks_constant : SortedName → Option Text → Option Form
-asks_constant x (Some c) = Some (asks x (one_head c) false)
-asks_constant x None = None
+-- the variable's head is this constructor, or isn't
+abbrev pub asks_constant : Bool → SortedName → Option Text → Option Form
+asks_constant b x (Some c) = Some (asks x (one_head c) b)
+asks_constant b x None = None
 
 -- what is said, if anything, is of a head or a solved equation: it asks for no number, truth value or token
 abbrev pub IsSetApart : Option Said → Type 0

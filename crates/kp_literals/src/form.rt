@@ -58,7 +58,7 @@ pub enum LiteralForm<'a> {
         test: AskedHeads<'a>,
         passes: bool,
     },
-    /// The equation of a variable that stands nowhere else.
+    /// The equation of a variable that stands in no other clause.
     Gives {
         variable: &'a Variable,
         term: &'a Term,

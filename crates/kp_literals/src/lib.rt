@@ -1,6 +1,6 @@
 // What the literals of a state say, in code: the form of each, told without memory, and the bounds of differences that
 // comparisons are; in a clause of its own a literal may also ask for the head of a variable, or be the equation of a variable
-// that stands nowhere else. specs/Forms.antt says which form of kp_symbolic the code's is, specs/Readings.antt which read
+// that stands in no other clause. specs/Forms.antt says which form of kp_symbolic the code's is, specs/Readings.antt which read
 // literal, specs/Equations.antt which equation, specs/Kinds.antt how the heads of a sort are tested.
 #![tactic(auto)]
 

@@ -74,6 +74,21 @@ fn clauses_have_name(alloc: Global, clauses: &[Clause], name: &str) -> Result<bo
     Ok(false)
 }
 
+/// Whether the variable stands in no other clause than the one between these.
+pub fn stands_in_none(
+    alloc: Global,
+    before: &[Clause],
+    after: &[Clause],
+    name: &str,
+) -> Result<bool, AllocError>
+    ensures { IfOk result (λ b. b ≡ model.stands_in_none (clauses_view before.now ++ clauses_view after.now) name.now) }
+{
+    if clauses_have_name(alloc, before, name)? {
+        return Ok(false);
+    }
+    Ok(!clauses_have_name(alloc, after, name)?)
+}
+
 /// Whether the variable stands in no other clause than the one between these, and not in the term.
 pub fn stands_alone(
     alloc: Global,
