@@ -1,23 +1,24 @@
 -- A literal says what its form says, where its variables have values of their sorts.
 use Rattle.std.proofs.Common.{arith, ◌≡◌, refl, sym, ◌∙◌, ap, subst, ◌↔◌, ℤ, pos, ◌+ℤ◌, Bool, true, false, not, List, [], ◌∷◌, ◌++◌, Option, Some, None}
-use Rattle.std.specs.Prelude.{if◌then◌else◌, int_le, int_lt, MatchBool}
+use Rattle.std.specs.Prelude.{if◌then◌else◌, int_le, int_lt, MatchBool, ⊤}
 use Rattle.std.specs.Bool.{beq, Decides}
 use Rattle.std.specs.Ordering.{int_eq}
 use Rattle.std.proofs.lemmas.Int.{ints}
-use Rattle.kp_kore.specs.Syntax.{Text}
+use Rattle.kp_kore.specs.Syntax.{Text, KoreSort, KoreSorts, no_sorts, next_sort}
 use Rattle.kp_kore.specs.Hooks.{Comparison, equal, different, less, at_most, greater, at_least, whole_arithmetic, addition, whole_comparison, truth_connective, truth_negation, values_equal, values_different}
 use Rattle.kp_kore.specs.Parts.{SortedName}
-use Rattle.kp_kore.specs.Signature.{KoreSignature, SymbolMeaning, injection, construction, interpretation, foreign, meaning_of, is_truth_sort, has_only_numbers, has_only_truths}
-use Rattle.kp_kore.specs.Value.{Value, whole, truth, token, constructed, values_same, HasSort}
+use Rattle.kp_kore.specs.Signature.{KoreSignature, SymbolMeaning, injection, construction, interpretation, foreign, meaning_of, is_truth_sort, has_only_numbers, has_only_truths, constructor_of}
+use Rattle.kp_kore.specs.Value.{Value, whole, truth, token, constructed, Values, no_values, next_value, values_same, head_of, ArgumentSorts, HasSort, HaveSorts}
 use Rattle.kp_kore.specs.Forms.{two}
 use Rattle.kp_kore.specs.Interpretation.{compared, interpreted}
 use Rattle.kp_kore.specs.Instance.{Valuation, GivesSorts, applied}
 use Rattle.kp_kore.proofs.SameLemmas.{same_values_decide}
 use Rattle.kp_signature.proofs.NumberLemmas.{only_numbers, only_truths}
+use Rattle.kp_compile.specs.Spelled.{places_of}
 use Rattle.kp_symbolic.specs.Terms.{SymbolicTerm, unknown, offset, known, headed, no_terms, next_term, term_instance, term_variables}
-use Rattle.kp_symbolic.specs.States.{Atom, same, has_head, quoted, Literal, IsAtomTrue, IsLiteralTrue}
-use Rattle.kp_symbolic.specs.WellFormed.{IsGivenAtom}
-use Rattle.kp_symbolic.specs.Plain.{has_only_tokens, WholePart, whole_part_of, whole_part, TokenPart, some_token, token_part, Form, compares, is_truth, equates, comparison_if, comparing, equating, first_form, equality_form, call_form, truth_form, same_form, form_of}
+use Rattle.kp_symbolic.specs.States.{one_head, Atom, same, has_head, quoted, Literal, IsAtomTrue, IsLiteralTrue}
+use Rattle.kp_symbolic.specs.WellFormed.{IsGivenSorts, IsGivenAtom}
+use Rattle.kp_symbolic.specs.Plain.{has_only_tokens, WholePart, whole_part_of, whole_part, TokenPart, some_token, token_part, Form, compares, is_truth, equates, asks, comparison_if, comparing, equating, first_form, equality_form, call_form, truth_form, same_form, form_of, constant_form, head_by_call, head_by_truth, head_by_sides, head_form}
 use Rattle.kp_clause_demands.specs.Saying.{number_of, whole_value, token_value, Says}
 use Rattle.kp_clause_demands.proofs.WayLemmas.{through}
 
@@ -239,3 +240,137 @@ atom_says g v b (quoted p rs) k h e = none_some e
 
 pub form_says : (g : KoreSignature) (v : Valuation) (l : Literal) (k : Form) → IsGivenAtom g v l.atom → form_of g l ≡ Some k → IsLiteralTrue g v l ↔ Says g v k
 form_says g v l k h e = atom_says g v l.holds l.atom k h e
+
+-- ---- heads: a constructor without arguments
+
+no_more : (g : KoreSignature) (ss : KoreSorts) (us : Values) → HaveSorts g ss no_values → HaveSorts g ss us → us ≡ no_values
+no_more g no_sorts no_values h k = refl
+no_more g no_sorts (next_value u us) h k = absurd k
+no_more g (next_sort s ss) us h k = absurd h
+
+one_declared : (g : KoreSignature) (c : Text) (ss rs : KoreSorts) → ArgumentSorts g c ss → ArgumentSorts g c rs → ss ≡ rs
+one_declared g c ss rs (d, i, e) (k, j, q) = sym e ∙ ap (λ m. m.arguments) (same_some (sym i ∙ j)) ∙ q
+  where
+    same_some : Some d ≡ Some k → d ≡ k
+    same_some m = cc
+
+constant_is : (g : KoreSignature) (s r : KoreSort) (u : Value) (c : Text) → HasSort g s u → HasSort g r (constructed c no_values) → head_of u ≡ constructor_of c → u ≡ constructed c no_values
+constant_is g s r (constructed b us) c h k e =
+    let named : b ≡ c = name_inside e in
+    let sorts = one_declared g c h.1 k.1 (subst (λ n. ArgumentSorts g n h.1) named h.2) k.2 in
+    ap (λ n. constructed n us) named ∙ ap (constructed c) (no_more g h.1 us (subst (λ ss. HaveSorts g ss no_values) (sym sorts) k.3) h.3)
+  where
+    name_inside : constructor_of b ≡ constructor_of c → b ≡ c
+    name_inside q = cc
+constant_is g s r (whole n) c h k e = absurd (cc)
+constant_is g s r (truth b) c h k e = absurd (cc)
+constant_is g s r (token t x) c h k e = absurd (cc)
+
+-- the value is this constant exactly where its head is the constructor
+is_constant : (g : KoreSignature) (v : Valuation) (b : Bool) (s r : KoreSort) (x : SortedName) (c : Text) → HasSort g s (v x.name) → HasSort g r (constructed c no_values) →
+    MatchBool b (v x.name ≡ constructed c no_values) (¬ (v x.name ≡ constructed c no_values)) ↔ Says g v (asks x (one_head c) b)
+is_constant g v true s r x c h k = (
+  (λ e n. n (ap head_of e)),
+  (λ n. by (values_same (v x.name) (constructed c no_values)) (same_values_decide (v x.name) (constructed c no_values)) n),
+)
+  where
+    by : (d : Bool) → Decides d (v x.name ≡ constructed c no_values) → ¬ ¬ (head_of (v x.name) ≡ constructor_of c) → v x.name ≡ constructed c no_values
+    by true q n = q.0 refl
+    by false q n = absurd (n (λ e. false_true (q.1 (constant_is g s r (v x.name) c h k e))))
+is_constant g v false s r x c h k = ((λ n m. m (λ e. n (constant_is g s r (v x.name) c h k e))), (λ n e. n (λ m. m (ap head_of e))))
+
+constant_says : (g : KoreSignature) (v : Valuation) (b : Bool) (s r : KoreSort) (t u : SymbolicTerm) (k : Form) → HasSort g s (term_instance g v t) → HasSort g r (term_instance g v u) → constant_form b t u ≡ Some k →
+    MatchBool b (term_instance g v t ≡ term_instance g v u) (¬ (term_instance g v t ≡ term_instance g v u)) ↔ Says g v k
+constant_says g v b s r (unknown x) (known (constructed c no_values)) k ht hu e =
+    subst (λ j. MatchBool b (v x.name ≡ constructed c no_values) (¬ (v x.name ≡ constructed c no_values)) ↔ Says g v j) (some_is e) (is_constant g v b s r x c ht hu)
+constant_says g v b s r (known (constructed c no_values)) (unknown x) k ht hu e =
+    subst (λ j. MatchBool b (constructed c no_values ≡ v x.name) (¬ (constructed c no_values ≡ v x.name)) ↔ Says g v j) (some_is e) (through (other_way b (constructed c no_values) (v x.name)) (is_constant g v b r s x c hu ht))
+constant_says g v b s r t u k ht hu e = none_some e
+
+head_call_says : (g : KoreSignature) (v : Valuation) (d : Bool) (f : Text) (s r : KoreSort) (t u : SymbolicTerm) (k : Form) (m : SymbolMeaning) → HasSort g s (term_instance g v t) → HasSort g r (term_instance g v u) → head_by_call d m t u ≡ Some k →
+    Tells g v d (applied m f (two (term_instance g v t) (term_instance g v u))) k
+head_call_says g v d f s r t u k (interpretation values_equal) ht hu e = record {
+  value = values_same (term_instance g v t) (term_instance g v u);
+  is = refl;
+  says = through (turned (decided_sign d (values_same (term_instance g v t) (term_instance g v u)) (term_instance g v t ≡ term_instance g v u) (same_values_decide (term_instance g v t) (term_instance g v u)))) (constant_says g v d s r t u k ht hu e);
+}
+head_call_says g v d f s r t u k (interpretation values_different) ht hu e = record {
+  value = not (values_same (term_instance g v t) (term_instance g v u));
+  is = refl;
+  says = through (turned (not_turned (values_same (term_instance g v t) (term_instance g v u)) d))
+      (through (turned (decided_sign (not d) (values_same (term_instance g v t) (term_instance g v u)) (term_instance g v t ≡ term_instance g v u) (same_values_decide (term_instance g v t) (term_instance g v u)))) (constant_says g v (not d) s r t u k ht hu e));
+}
+head_call_says g v d f s r t u k (interpretation (whole_comparison c)) ht hu e = none_some e
+head_call_says g v d f s r t u k (interpretation (whole_arithmetic a)) ht hu e = none_some e
+head_call_says g v d f s r t u k (interpretation (truth_connective c)) ht hu e = none_some e
+head_call_says g v d f s r t u k (interpretation truth_negation) ht hu e = none_some e
+head_call_says g v d f s r t u k injection ht hu e = none_some e
+head_call_says g v d f s r t u k construction ht hu e = none_some e
+head_call_says g v d f s r t u k foreign ht hu e = none_some e
+
+both_sorted : (g : KoreSignature) (ss : KoreSorts) (a b : Value) → HaveSorts g ss (two a b) → (s : KoreSort) × (r : KoreSort) × HasSort g s a × HasSort g r b
+both_sorted g no_sorts a b h = absurd h
+both_sorted g (next_sort s no_sorts) a b h = absurd h.1
+both_sorted g (next_sort s (next_sort r ss)) a b h = (s, r, h.0, h.1.0)
+
+head_truth_says : (g : KoreSignature) (v : Valuation) (d : Bool) (t : SymbolicTerm) (k : Form) → IsGivenSorts g v t → head_by_truth g d t ≡ Some k → Tells g v d (term_instance g v t) k
+head_truth_says g v d (headed f (next_term t (next_term u no_terms))) k h e =
+    let p = both_sorted g (places_of g f) (term_instance g v t) (term_instance g v u) h.0 in
+    head_call_says g v d f p.0 p.1 t u k (meaning_of g f) p.2 p.3 e
+head_truth_says g v d (unknown x) k h e = none_some e
+head_truth_says g v d (offset x c) k h e = none_some e
+head_truth_says g v d (known u) k h e = none_some e
+head_truth_says g v d (headed f no_terms) k h e = none_some e
+head_truth_says g v d (headed f (next_term t no_terms)) k h e = none_some e
+head_truth_says g v d (headed f (next_term t (next_term u (next_term w ws)))) k h e = none_some e
+
+head_sides_says : (g : KoreSignature) (v : Valuation) (b : Bool) (s : KoreSort) (t u : SymbolicTerm) (k : Form) → IsGivenAtom g v (same s t u) → head_by_sides g b t u ≡ Some k →
+    MatchBool b (term_instance g v t ≡ term_instance g v u) (¬ (term_instance g v t ≡ term_instance g v u)) ↔ Says g v k
+head_sides_says g v b s t (known (truth c)) k h e = told g v b c (term_instance g v t) k (head_truth_says g v (beq b c) t k h.2 e)
+head_sides_says g v b s (known (truth c)) u k h e = through (other_way b (truth c) (term_instance g v u)) (told g v b c (term_instance g v u) k (head_truth_says g v (beq b c) u k h.3 e))
+head_sides_says g v b s t u k h e = constant_says g v b s s t u k h.4 h.5 e
+
+head_atom_says : (g : KoreSignature) (v : Valuation) (b : Bool) (a : Atom) (k : Form) → IsGivenAtom g v a → head_form g (record { holds = b; atom = a }) ≡ Some k → MatchBool b (IsAtomTrue g v a) (¬ IsAtomTrue g v a) ↔ Says g v k
+head_atom_says g v b (has_head x test) k h e = subst (λ j. MatchBool b (IsAtomTrue g v (has_head x test)) (¬ IsAtomTrue g v (has_head x test)) ↔ Says g v j) (some_is e) (λ n. n, λ n. n)
+head_atom_says g v b (same s t u) k h e = head_sides_says g v b s t u k h e
+head_atom_says g v b (quoted p rs) k h e = none_some e
+
+-- a literal says of the head of a variable what its form says
+pub head_says : (g : KoreSignature) (v : Valuation) (l : Literal) (k : Form) → IsGivenAtom g v l.atom → head_form g l ≡ Some k → IsLiteralTrue g v l ↔ Says g v k
+head_says g v l k h e = head_atom_says g v l.holds l.atom k h e
+
+-- and it asks for nothing else
+abbrev pub IsHeadForm : Form → Type 0
+IsHeadForm (asks x test b) = ⊤
+IsHeadForm f = ⊥
+
+abbrev MaybeHead : Option Form → Type 0
+MaybeHead (Some f) = IsHeadForm f
+MaybeHead None = ⊤
+
+constant_asks : (b : Bool) (t u : SymbolicTerm) → MaybeHead (constant_form b t u)
+constant_asks b (unknown x) (known (constructed c no_values)) = tt
+constant_asks b (known (constructed c no_values)) (unknown x) = tt
+constant_asks b _ _ = tt
+
+call_asks : (b : Bool) (m : SymbolMeaning) (t u : SymbolicTerm) → MaybeHead (head_by_call b m t u)
+call_asks b (interpretation values_equal) t u = constant_asks b t u
+call_asks b (interpretation values_different) t u = constant_asks (not b) t u
+call_asks b _ t u = tt
+
+truth_asks : (g : KoreSignature) (b : Bool) (t : SymbolicTerm) → MaybeHead (head_by_truth g b t)
+truth_asks g b (headed f (next_term t (next_term u no_terms))) = call_asks b (meaning_of g f) t u
+truth_asks g b _ = tt
+
+sides_ask : (g : KoreSignature) (b : Bool) (t u : SymbolicTerm) → MaybeHead (head_by_sides g b t u)
+sides_ask g b t (known (truth c)) = truth_asks g (beq b c) t
+sides_ask g b (known (truth c)) u = truth_asks g (beq b c) u
+sides_ask g b t u = constant_asks b t u
+
+head_atom_asks : (g : KoreSignature) (b : Bool) (a : Atom) → MaybeHead (head_form g (record { holds = b; atom = a }))
+head_atom_asks g b (has_head x test) = tt
+head_atom_asks g b (same s t u) = sides_ask g b t u
+head_atom_asks g b (quoted p rs) = tt
+
+pub head_asks : (g : KoreSignature) (l : Literal) (f : Form) → head_form g l ≡ Some f → IsHeadForm f
+head_asks g l f e = subst MaybeHead e (head_atom_asks g l.holds l.atom)
