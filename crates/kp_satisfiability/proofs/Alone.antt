@@ -1,4 +1,4 @@
--- What the variable of an equation stands in: not in its own term, and nowhere else where it stands alone.
+-- What the variable of an equation stands in: not in its own term, and in no other clause where it is solved.
 use Rattle.std.proofs.Common.{◌≡◌, refl, subst, Bool, true, false, not, ◌&&◌, ◌||◌, List, [], ◌∷◌, ◌++◌, Option, Some, None}
 use Rattle.std.specs.Prelude.{if◌then◌else◌, ⊤}
 use Rattle.std.specs.Bool.{beq}
@@ -17,7 +17,7 @@ use Rattle.kp_symbolic.specs.WellFormed.{term_sort, is_sort_below}
 use Rattle.kp_symbolic.specs.Folding.{is_text_before}
 use Rattle.kp_symbolic.specs.Writing.{is_solved_by}
 use Rattle.kp_symbolic.specs.Solving.{Equation, equation_if, first_equation, equation_of_sides, tells_equal, tells_different, equation_of_truth, equation_of_atom, equation_of}
-use Rattle.kp_symbolic.specs.Plain.{stands_alone}
+use Rattle.kp_symbolic.specs.Plain.{stands_in_none}
 use Rattle.kp_satisfiability.proofs.Ready.{IsSolved}
 
 some_inside : {A : Type 0} {a b : A} → Some a ≡ Some b → a ≡ b
@@ -100,9 +100,8 @@ pub all_pass : {X : Type 0} (test : X → Bool) (xs : List X) → list_all test 
 all_pass test [] e = tt
 all_pass test (x ∷ xs) e = (first_true (test x) (list_all test xs) e, all_pass test xs (second_true (test x) (list_all test xs) e))
 
-pub alone_in : (s : SymbolicState) (others : List (List Literal)) (x : SortedName) (d : List Literal) → stands_alone s others x.name ≡ true → Contains others d → is_named x.name (clause_variables d) ≡ false
-alone_in s others x d e at =
-    let all = second_true (not (is_named x.name (term_variables s.term))) (list_all (λ c. not (is_named x.name (clause_variables c))) others) e in
+pub alone_in : (s : SymbolicState) (others : List (List Literal)) (x : SortedName) (d : List Literal) → stands_in_none others x.name ≡ true → Contains others d → is_named x.name (clause_variables d) ≡ false
+alone_in s others x d all at =
     not_true (is_named x.name (clause_variables d)) (of_member (λ c. not (is_named x.name (clause_variables c)) ≡ true) others d (all_pass (λ c. not (is_named x.name (clause_variables c))) others all) at)
 
 -- the variables that are solved for in these clauses, behind others, don't stand among the variables

@@ -1,17 +1,15 @@
 -- Where the plain parts of clauses are true, what the clauses ask holds: so what can't be asked refutes them.
-use Rattle.std.proofs.Common.{◌≡◌, refl, sym, subst, Bool, true, false, List, [], ◌∷◌, ◌++◌, map, Option, Some, None}
+use Rattle.std.proofs.Common.{◌≡◌, refl, sym, ◌∙◌, subst, Bool, true, false, List, [], ◌∷◌, ◌++◌, map, Option, Some, None}
 use Rattle.std.specs.Prelude.{if◌then◌else◌}
 use Rattle.std.specs.List.{AllByRecursion}
 use Rattle.kp_kore.specs.Signature.{KoreSignature}
-use Rattle.kp_kore.specs.Value.{constructed, no_values}
 use Rattle.kp_kore.specs.Instance.{Valuation}
-use Rattle.kp_symbolic.specs.Terms.{SymbolicTerm, unknown, known}
-use Rattle.kp_symbolic.specs.States.{Atom, same, has_head, quoted, Literal, IsLiteralTrue, AreTrue, SymbolicState}
+use Rattle.kp_symbolic.specs.States.{Literal, IsLiteralTrue, AreTrue, SymbolicState}
 use Rattle.kp_symbolic.specs.WellFormed.{IsGivenAtom, AreGivenLiterals}
 use Rattle.kp_symbolic.specs.Solving.{Equation, equation_of}
-use Rattle.kp_symbolic.specs.Plain.{Form, compares, is_truth, equates, asks, gives, first_form, form_of, constant_form, head_form, solved_form, own_form, ReadLiteral, read_clause, read_from, read_clauses, plain_part}
+use Rattle.kp_symbolic.specs.Plain.{Form, compares, is_truth, equates, asks, gives, first_form, form_of, head_form, solved_form, own_form, ReadLiteral, read_clause, read_from, read_clauses, plain_part}
 use Rattle.kp_clause_demands.specs.Saying.{Says}
-use Rattle.kp_clause_demands.proofs.FormLemmas.{form_says}
+use Rattle.kp_clause_demands.proofs.FormLemmas.{form_says, IsHeadForm, head_asks}
 use Rattle.kp_clause_demands.specs.Asking.{AsksTruly, IsAskedTruly, AreAskedTruly}
 
 none_some : {A P : Type 0} {m : A} → None ≡ Some m → P
@@ -32,16 +30,12 @@ truly g v (equates b p q) s = s
 truly g v (asks x test b) s = tt
 truly g v (gives e) s = tt
 
-constant_asks : (g : KoreSignature) (v : Valuation) (t u : SymbolicTerm) (f : Form) → constant_form t u ≡ Some f → AsksTruly g v f
-constant_asks g v (unknown x) (known (constructed c no_values)) f e = subst (AsksTruly g v) (some_is e) tt
-constant_asks g v (known (constructed c no_values)) (unknown x) f e = subst (AsksTruly g v) (some_is e) tt
-constant_asks g v t u f e = none_some e
-
-head_asks : (g : KoreSignature) (v : Valuation) (b : Bool) (a : Atom) (f : Form) → head_form (record { holds = b; atom = a }) ≡ Some f → AsksTruly g v f
-head_asks g v b (has_head x test) f e = subst (AsksTruly g v) (some_is e) tt
-head_asks g v false (same s t u) f e = constant_asks g v t u f e
-head_asks g v true (same s t u) f e = none_some e
-head_asks g v b (quoted p rs) f e = none_some e
+asks_truly : (g : KoreSignature) (v : Valuation) (f : Form) → IsHeadForm f → AsksTruly g v f
+asks_truly g v (asks x test b) i = tt
+asks_truly g v (compares c m n) i = absurd i
+asks_truly g v (is_truth x b) i = absurd i
+asks_truly g v (equates b p q) i = absurd i
+asks_truly g v (gives e) i = absurd i
 
 solved_asks : (g : KoreSignature) (v : Valuation) (s : SymbolicState) (others : List (List Literal)) (o : Option Equation) (f : Form) → solved_form g s others o ≡ Some f → AsksTruly g v f
 solved_asks g v s others None f e = none_some e
@@ -61,13 +55,13 @@ form_asks g v l given f e h = truly g v f ((form_says g v l f given e).0 h)
 own_asks : (g : KoreSignature) (v : Valuation) (s : SymbolicState) (others : List (List Literal)) (l : Literal) → IsGivenAtom g v l.atom → AsksWell g v (record { literal = l; form = own_form g s others l })
 own_asks g v s others l given f e h = by_form (form_of g l) refl e
   where
-    by_head : (o : Option Form) → head_form l ≡ o → first_form o (solved_form g s others (equation_of g (l ∷ []))) ≡ Some f → AsksTruly g v f
-    by_head (Some k) is q = head_asks g v l.holds l.atom f (subst (λ o. o ≡ Some f) (sym is) q)
+    by_head : (o : Option Form) → head_form g l ≡ o → first_form o (solved_form g s others (equation_of g (l ∷ []))) ≡ Some f → AsksTruly g v f
+    by_head (Some k) is q = asks_truly g v f (head_asks g l f (is ∙ q))
     by_head None is q = solved_asks g v s others (equation_of g (l ∷ [])) f q
 
-    by_form : (o : Option Form) → form_of g l ≡ o → first_form o (first_form (head_form l) (solved_form g s others (equation_of g (l ∷ [])))) ≡ Some f → AsksTruly g v f
+    by_form : (o : Option Form) → form_of g l ≡ o → first_form o (first_form (head_form g l) (solved_form g s others (equation_of g (l ∷ [])))) ≡ Some f → AsksTruly g v f
     by_form (Some k) is q = form_asks g v l given f (subst (λ o. o ≡ Some f) (sym is) q) h
-    by_form None is q = by_head (head_form l) refl q
+    by_form None is q = by_head (head_form g l) refl q
 
 -- ---- clauses
 

@@ -1,19 +1,22 @@
 -- Where the clauses of a state are true, heads are as they ask; of which variables they ask, and where.
-use Rattle.std.proofs.Common.{◌≡◌, refl, sym, ap, subst, ◌∙◌, Bool, true, false, List, [], ◌∷◌, ◌++◌, map, Option, Some, None}
+use Rattle.std.proofs.Common.{◌≡◌, refl, sym, subst, Bool, true, false, not, List, [], ◌∷◌, ◌++◌, map, Option, Some, None}
 use Rattle.std.specs.Prelude.{if◌then◌else◌, MatchBool, ⊤}
+use Rattle.std.specs.Bool.{beq}
 use Rattle.std.specs.List.{AllByRecursion, Contains, flat_map, filter}
-use Rattle.kp_kore.specs.Syntax.{Text, KoreSort, KoreSorts, no_sorts, next_sort}
+use Rattle.kp_kore.specs.Hooks.{values_equal, values_different}
 use Rattle.kp_kore.specs.Parts.{SortedName}
-use Rattle.kp_kore.specs.Signature.{KoreSignature, constructor_of}
-use Rattle.kp_kore.specs.Value.{Value, whole, truth, token, constructed, Values, no_values, next_value, head_of, ArgumentSorts, HasSort, HaveSorts}
+use Rattle.kp_kore.specs.Signature.{KoreSignature, SymbolMeaning, interpretation, meaning_of}
+use Rattle.kp_kore.specs.Value.{truth, constructed, no_values, head_of, HasSort}
 use Rattle.kp_kore.specs.Instance.{Valuation}
 use Rattle.kp_kore.proofs.ListLemmas.{all_append, all_left, all_right, all_filter}
-use Rattle.kp_symbolic.specs.Terms.{SymbolicTerm, unknown, known, term_variables}
+use Rattle.kp_symbolic.specs.Terms.{SymbolicTerm, unknown, known, headed, no_terms, next_term, term_variables}
 use Rattle.kp_symbolic.specs.States.{PassesHead, Atom, same, has_head, quoted, atom_variables, Literal, IsLiteralTrue, AreTrue, clause_variables, SymbolicState, CanBeTrue}
 use Rattle.kp_symbolic.specs.WellFormed.{IsGivenAtom, AreGivenLiterals, AreAtHand}
 use Rattle.kp_symbolic.specs.Solving.{Equation, equation_of}
-use Rattle.kp_symbolic.specs.Plain.{Form, compares, is_truth, equates, asks, gives, first_form, form_of, constant_form, head_form, solved_form, own_form, ReadLiteral, read_clause, read_from, read_clauses}
+use Rattle.kp_symbolic.specs.Plain.{Form, compares, is_truth, equates, asks, gives, first_form, form_of, constant_form, head_by_call, head_by_truth, head_by_sides, head_form, solved_form, own_form, ReadLiteral, read_clause, read_from, read_clauses}
 use Rattle.kp_satisfiability.specs.Read.{HasSortedClauses}
+use Rattle.kp_clause_demands.specs.Saying.{Says}
+use Rattle.kp_clause_demands.proofs.FormLemmas.{head_says, IsHeadForm, head_asks}
 use Rattle.kp_satisfiability.proofs.Asked.{asked_of, asked_in, IsHeadAsked, AreHeadsAsked, CanHaveHeads}
 use Rattle.kp_satisfiability.proofs.GivenLemmas.{literals_given}
 use Rattle.kp_satisfiability.proofs.HeadLemmas.{AsksAlone}
@@ -49,49 +52,21 @@ form_asked : (g : KoreSignature) (l : Literal) (o : Option Form) → form_of g l
 form_asked g l (Some f) e = basic_asked f (form_basic g l f e)
 form_asked g l None e = refl
 
--- ---- a constructor without arguments
-
-no_more : (g : KoreSignature) (ss : KoreSorts) (us : Values) → HaveSorts g ss no_values → HaveSorts g ss us → us ≡ no_values
-no_more g no_sorts no_values h k = refl
-no_more g no_sorts (next_value u us) h k = absurd k
-no_more g (next_sort s ss) us h k = absurd h
-
-one_declared : (g : KoreSignature) (c : Text) (ss rs : KoreSorts) → ArgumentSorts g c ss → ArgumentSorts g c rs → ss ≡ rs
-one_declared g c ss rs (d, i, e) (k, j, q) = sym e ∙ ap (λ m. m.arguments) (same_some (sym i ∙ j)) ∙ q
-  where
-    same_some : Some d ≡ Some k → d ≡ k
-    same_some m = cc
-
-constant_is : (g : KoreSignature) (s : KoreSort) (u : Value) (c : Text) → HasSort g s u → HasSort g s (constructed c no_values) → head_of u ≡ constructor_of c → u ≡ constructed c no_values
-constant_is g s (constructed b us) c h k e =
-    let named : b ≡ c = name_inside e in
-    let sorts = one_declared g c h.1 k.1 (subst (λ n. ArgumentSorts g n h.1) named h.2) k.2 in
-    ap (λ n. constructed n us) named ∙ ap (constructed c) (no_more g h.1 us (subst (λ ss. HaveSorts g ss no_values) (sym sorts) k.3) h.3)
-  where
-    name_inside : constructor_of b ≡ constructor_of c → b ≡ c
-    name_inside q = cc
-constant_is g s (whole n) c h k e = absurd (cc)
-constant_is g s (truth b) c h k e = absurd (cc)
-constant_is g s (token t x) c h k e = absurd (cc)
-
 -- ---- a clause of one literal
 
 not_twice : (b : Bool) (P : Type 0) → ¬ (¬ MatchBool b (¬ ¬ P) (¬ ¬ ¬ P) × ⊤) → MatchBool b (¬ ¬ P) (¬ ¬ ¬ P)
 not_twice true P h = λ n. h ((λ k. k n), tt)
 not_twice false P h = λ n. h ((λ k. k n), tt)
 
-constant_head : (g : KoreSignature) (v : Valuation) (s : KoreSort) (t u : SymbolicTerm) (f : Form) → IsGivenAtom g v (same s t u) → constant_form t u ≡ Some f → ¬ (¬ IsLiteralTrue g v (record { holds = false; atom = same s t u }) × ⊤) → IsHeadAsked g v (Some f)
-constant_head g v s (unknown x) (known (constructed c no_values)) f given e h =
-    subst (IsHeadAsked g v) e (λ n. h ((λ differ. n (λ k. differ (constant_is g s (v x.name) c given.4 given.5 k))), tt))
-constant_head g v s (known (constructed c no_values)) (unknown x) f given e h =
-    subst (IsHeadAsked g v) e (λ n. h ((λ differ. n (λ k. differ (sym (constant_is g s (v x.name) c given.5 given.4 k)))), tt))
-constant_head g v s t u f given e h = none_some e
+asked_twice : (g : KoreSignature) (v : Valuation) (f : Form) → IsHeadForm f → ¬ (¬ Says g v f × ⊤) → IsHeadAsked g v (Some f)
+asked_twice g v (asks x test b) i h = not_twice b (PassesHead g test (head_of (v x.name))) h
+asked_twice g v (compares c m n) i h = absurd i
+asked_twice g v (is_truth x b) i h = absurd i
+asked_twice g v (equates b p q) i h = absurd i
+asked_twice g v (gives e) i h = absurd i
 
-head_head : (g : KoreSignature) (v : Valuation) (b : Bool) (a : Atom) (f : Form) → IsGivenAtom g v a → head_form (record { holds = b; atom = a }) ≡ Some f → ¬ (¬ IsLiteralTrue g v (record { holds = b; atom = a }) × ⊤) → IsHeadAsked g v (Some f)
-head_head g v b (has_head x test) f given e h = subst (IsHeadAsked g v) e (not_twice b (PassesHead g test (head_of (v x.name))) h)
-head_head g v false (same s t u) f given e h = constant_head g v s t u f given e h
-head_head g v true (same s t u) f given e h = none_some e
-head_head g v b (quoted p rs) f given e h = none_some e
+head_head : (g : KoreSignature) (v : Valuation) (l : Literal) (f : Form) → IsGivenAtom g v l.atom → head_form g l ≡ Some f → ¬ (¬ IsLiteralTrue g v l × ⊤) → IsHeadAsked g v (Some f)
+head_head g v l f given e h = asked_twice g v f (head_asks g l f e) (λ n. h ((λ t. n.0 ((head_says g v l f given e).0 t)), tt))
 
 solved_head : (g : KoreSignature) (v : Valuation) (s : SymbolicState) (others : List (List Literal)) (o : Option Equation) → IsHeadAsked g v (solved_form g s others o)
 solved_head g v s others None = tt
@@ -104,13 +79,13 @@ solved_head g v s others (Some q) = by _
 own_head : (g : KoreSignature) (v : Valuation) (s : SymbolicState) (others : List (List Literal)) (l : Literal) → IsGivenAtom g v l.atom → ¬ (¬ IsLiteralTrue g v l × ⊤) → IsHeadAsked g v (own_form g s others l)
 own_head g v s others l given h = by_form (form_of g l) refl
   where
-    by_head : (o : Option Form) → head_form l ≡ o → IsHeadAsked g v (first_form o (solved_form g s others (equation_of g (l ∷ []))))
-    by_head (Some f) e = head_head g v l.holds l.atom f given e h
+    by_head : (o : Option Form) → head_form g l ≡ o → IsHeadAsked g v (first_form o (solved_form g s others (equation_of g (l ∷ []))))
+    by_head (Some f) e = head_head g v l f given e h
     by_head None e = solved_head g v s others (equation_of g (l ∷ []))
 
-    by_form : (o : Option Form) → form_of g l ≡ o → IsHeadAsked g v (first_form o (first_form (head_form l) (solved_form g s others (equation_of g (l ∷ [])))))
+    by_form : (o : Option Form) → form_of g l ≡ o → IsHeadAsked g v (first_form o (first_form (head_form g l) (solved_form g s others (equation_of g (l ∷ [])))))
     by_form (Some f) e = form_head g v l (Some f) e
-    by_form None e = by_head (head_form l) refl
+    by_form None e = by_head (head_form g l) refl
 
 -- ---- clauses
 
@@ -132,16 +107,31 @@ heads_where_true g s well h = all_heads g h.valuation s [] s.clauses (literals_g
 
 -- ---- of which variables heads are asked
 
-constant_at : (hand : List SortedName) (t u : SymbolicTerm) → AllByRecursion (Contains hand) (term_variables t ++ term_variables u) → AllByRecursion (Contains hand) (asked_of (constant_form t u))
-constant_at hand (unknown x) (known (constructed c no_values)) h = h
-constant_at hand (known (constructed c no_values)) (unknown x) h = h
-constant_at hand t u h = tt
+constant_at : (hand : List SortedName) (b : Bool) (t u : SymbolicTerm) → AllByRecursion (Contains hand) (term_variables t ++ term_variables u) → AllByRecursion (Contains hand) (asked_of (constant_form b t u))
+constant_at hand b (unknown x) (known (constructed c no_values)) h = h
+constant_at hand b (known (constructed c no_values)) (unknown x) h = h
+constant_at hand b t u h = tt
 
-head_at : (hand : List SortedName) (b : Bool) (a : Atom) → AllByRecursion (Contains hand) (atom_variables a) → AllByRecursion (Contains hand) (asked_of (head_form (record { holds = b; atom = a })))
-head_at hand b (has_head x test) h = h
-head_at hand false (same s t u) h = constant_at hand t u h
-head_at hand true (same s t u) h = tt
-head_at hand b (quoted p rs) h = tt
+call_at : (hand : List SortedName) (b : Bool) (m : SymbolMeaning) (t u : SymbolicTerm) → AllByRecursion (Contains hand) (term_variables t ++ term_variables u) → AllByRecursion (Contains hand) (asked_of (head_by_call b m t u))
+call_at hand b (interpretation values_equal) t u h = constant_at hand b t u h
+call_at hand b (interpretation values_different) t u h = constant_at hand (not b) t u h
+call_at hand b m t u h = tt
+
+truth_at : (g : KoreSignature) (hand : List SortedName) (b : Bool) (t : SymbolicTerm) → AllByRecursion (Contains hand) (term_variables t) → AllByRecursion (Contains hand) (asked_of (head_by_truth g b t))
+truth_at g hand b (headed f (next_term t (next_term u no_terms))) h =
+    let behind = term_variables u ++ [] in
+    call_at hand b (meaning_of g f) t u (all_append (Contains hand) (term_variables t) (term_variables u) (all_left (Contains hand) (term_variables t) behind h) (all_left (Contains hand) (term_variables u) [] (all_right (Contains hand) (term_variables t) behind h)))
+truth_at g hand b t h = tt
+
+sides_at : (g : KoreSignature) (hand : List SortedName) (b : Bool) (t u : SymbolicTerm) → AllByRecursion (Contains hand) (term_variables t ++ term_variables u) → AllByRecursion (Contains hand) (asked_of (head_by_sides g b t u))
+sides_at g hand b t (known (truth c)) h = truth_at g hand (beq b c) t (all_left (Contains hand) (term_variables t) [] h)
+sides_at g hand b (known (truth c)) u h = truth_at g hand (beq b c) u h
+sides_at g hand b t u h = constant_at hand b t u h
+
+head_at : (g : KoreSignature) (hand : List SortedName) (b : Bool) (a : Atom) → AllByRecursion (Contains hand) (atom_variables a) → AllByRecursion (Contains hand) (asked_of (head_form g (record { holds = b; atom = a })))
+head_at g hand b (has_head x test) h = h
+head_at g hand b (same s t u) h = sides_at g hand b t u h
+head_at g hand b (quoted p rs) h = tt
 
 solved_at : (g : KoreSignature) (s : SymbolicState) (others : List (List Literal)) (hand : List SortedName) (o : Option Equation) → AllByRecursion (Contains hand) (asked_of (solved_form g s others o))
 solved_at g s others hand None = tt
@@ -154,13 +144,13 @@ solved_at g s others hand (Some q) = by _
 own_at : (g : KoreSignature) (s : SymbolicState) (others : List (List Literal)) (hand : List SortedName) (l : Literal) → AllByRecursion (Contains hand) (atom_variables l.atom) → AllByRecursion (Contains hand) (asked_of (own_form g s others l))
 own_at g s others hand l h = by_form (form_of g l) refl
   where
-    by_head : (o : Option Form) → head_form l ≡ o → AllByRecursion (Contains hand) (asked_of (first_form o (solved_form g s others (equation_of g (l ∷ [])))))
-    by_head (Some f) e = subst (λ o. AllByRecursion (Contains hand) (asked_of o)) e (head_at hand l.holds l.atom h)
+    by_head : (o : Option Form) → head_form g l ≡ o → AllByRecursion (Contains hand) (asked_of (first_form o (solved_form g s others (equation_of g (l ∷ [])))))
+    by_head (Some f) e = subst (λ o. AllByRecursion (Contains hand) (asked_of o)) e (head_at g hand l.holds l.atom h)
     by_head None e = solved_at g s others hand (equation_of g (l ∷ []))
 
-    by_form : (o : Option Form) → form_of g l ≡ o → AllByRecursion (Contains hand) (asked_of (first_form o (first_form (head_form l) (solved_form g s others (equation_of g (l ∷ []))))))
+    by_form : (o : Option Form) → form_of g l ≡ o → AllByRecursion (Contains hand) (asked_of (first_form o (first_form (head_form g l) (solved_form g s others (equation_of g (l ∷ []))))))
     by_form (Some f) e = subst (AllByRecursion (Contains hand)) (sym (basic_asked f (form_basic g l f e))) tt
-    by_form None e = by_head (head_form l) refl
+    by_form None e = by_head (head_form g l) refl
 
 none_of_each : (g : KoreSignature) (c : List Literal) → AllByRecursion (λ (r : ReadLiteral). asked_of r.form ≡ []) (map (λ l. record { literal = l; form = form_of g l }) c)
 none_of_each g [] = tt

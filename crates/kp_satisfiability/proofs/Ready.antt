@@ -1,22 +1,21 @@
 -- Where what a clause asks of numbers, truth values, tokens and heads holds, it is true by a plain literal, or it is an
 -- equation that gives its variable.
-use Rattle.std.proofs.Common.{◌≡◌, refl, sym, ap, subst, ◌⊎◌, inl, inr, Bool, true, false, not, List, [], ◌∷◌, map, Option, Some, None}
+use Rattle.std.proofs.Common.{◌≡◌, refl, sym, subst, ◌⊎◌, inl, inr, Bool, true, false, not, List, [], ◌∷◌, map, Option, Some, None}
 use Rattle.std.specs.Prelude.{if◌then◌else◌, ◌||◌, ⊤}
 use Rattle.std.specs.Bool.{beq}
 use Rattle.std.specs.List.{AllByRecursion}
-use Rattle.kp_kore.specs.Syntax.{KoreSort}
 use Rattle.kp_kore.specs.Hooks.{Comparison, equal, whole_comparison, values_equal, values_different}
 use Rattle.kp_kore.specs.Signature.{KoreSignature, SymbolMeaning, interpretation, meaning_of, is_truth_sort, has_only_numbers, has_only_truths}
-use Rattle.kp_kore.specs.Value.{truth, constructed, no_values, head_of}
+use Rattle.kp_kore.specs.Value.{truth}
 use Rattle.kp_kore.specs.Instance.{Valuation}
 use Rattle.kp_symbolic.specs.Formulas.{NotAllFalse}
 use Rattle.kp_symbolic.specs.Terms.{SymbolicTerm, unknown, known, headed, no_terms, next_term}
-use Rattle.kp_symbolic.specs.States.{one_head, Atom, same, has_head, quoted, Literal, IsLiteralTrue, IsClauseTrue, SymbolicState}
+use Rattle.kp_symbolic.specs.States.{Atom, same, has_head, quoted, Literal, IsLiteralTrue, IsClauseTrue, SymbolicState}
 use Rattle.kp_symbolic.specs.WellFormed.{IsGivenAtom}
 use Rattle.kp_symbolic.specs.Solving.{Equation, equation_of}
-use Rattle.kp_symbolic.specs.Plain.{WholePart, TokenPart, whole_part, token_part, Form, compares, is_truth, equates, asks, gives, comparing, equating, first_form, equality_form, call_form, truth_form, same_form, form_of, constant_form, head_form, stands_alone, solved_form, own_form, ReadLiteral, read_clause, plain_part}
+use Rattle.kp_symbolic.specs.Plain.{WholePart, TokenPart, whole_part, token_part, Form, compares, is_truth, equates, asks, gives, comparing, equating, first_form, equality_form, call_form, truth_form, same_form, form_of, head_form, stands_in_none, solved_form, own_form, ReadLiteral, read_clause, plain_part}
 use Rattle.kp_clause_demands.specs.Saying.{Says}
-use Rattle.kp_clause_demands.proofs.FormLemmas.{form_says}
+use Rattle.kp_clause_demands.proofs.FormLemmas.{form_says, head_says, IsHeadForm, head_asks}
 use Rattle.kp_clause_demands.specs.Asking.{AsksTruly, IsAskedTruly}
 use Rattle.kp_satisfiability.proofs.Asked.{IsHeadAsked}
 
@@ -99,30 +98,29 @@ basic_true g v l f given e h = (form_says g v l f given e).1 (says_truly g v f (
 
 -- ---- heads
 
-constant_true : (g : KoreSignature) (v : Valuation) (s : KoreSort) (t u : SymbolicTerm) (f : Form) → constant_form t u ≡ Some f → IsHeadAsked g v (Some f) → IsLiteralTrue g v (record { holds = false; atom = same s t u })
-constant_true g v s (unknown x) (known (constructed c no_values)) f e h = let k : Says g v (asks x (one_head c) false) = subst (IsHeadAsked g v) (sym e) h in λ i. k (λ n. n (ap head_of i))
-constant_true g v s (known (constructed c no_values)) (unknown x) f e h = let k : Says g v (asks x (one_head c) false) = subst (IsHeadAsked g v) (sym e) h in λ i. k (λ n. n (ap head_of (sym i)))
-constant_true g v s t u f e h = none_some e
+said_of_head : (g : KoreSignature) (v : Valuation) (f : Form) → IsHeadForm f → IsHeadAsked g v (Some f) → Says g v f
+said_of_head g v (asks x test b) i h = h
+said_of_head g v (compares c m n) i h = absurd i
+said_of_head g v (is_truth x b) i h = absurd i
+said_of_head g v (equates b p q) i h = absurd i
+said_of_head g v (gives e) i h = absurd i
 
-head_true : (g : KoreSignature) (v : Valuation) (b : Bool) (a : Atom) (f : Form) → head_form (record { holds = b; atom = a }) ≡ Some f → IsHeadAsked g v (Some f) → IsLiteralTrue g v (record { holds = b; atom = a })
-head_true g v b (has_head x test) f e h = subst (IsHeadAsked g v) (sym e) h
-head_true g v false (same s t u) f e h = constant_true g v s t u f e h
-head_true g v true (same s t u) f e h = none_some e
-head_true g v b (quoted p rs) f e h = none_some e
+head_true : (g : KoreSignature) (v : Valuation) (l : Literal) (f : Form) → IsGivenAtom g v l.atom → head_form g l ≡ Some f → IsHeadAsked g v (Some f) → IsLiteralTrue g v l
+head_true g v l f given e h = (head_says g v l f given e).1 (said_of_head g v f (head_asks g l f e) h)
 
 -- ---- solved equations
 
--- the literal is an equation whose variable stands in no other clause and not in the term
+-- the literal is an equation whose variable stands in no other clause
 pub record IsSolved (g : KoreSignature) (s : SymbolicState) (others : List (List Literal)) (l : Literal) : Type 0 where
   pub equation : Equation
   pub is : equation_of g (l ∷ []) ≡ Some equation
-  pub alone : stands_alone s others equation.variable.name ≡ true
+  pub alone : stands_in_none others equation.variable.name ≡ true
 
 solved_is : (g : KoreSignature) (s : SymbolicState) (others : List (List Literal)) (l : Literal) (o : Option Equation) (f : Form) → equation_of g (l ∷ []) ≡ o → solved_form g s others o ≡ Some f → IsSolved g s others l
 solved_is g s others l None f i e = none_some e
-solved_is g s others l (Some q) f i e = by (has_only_numbers g q.variable.sort) (stands_alone s others q.variable.name) refl e
+solved_is g s others l (Some q) f i e = by (has_only_numbers g q.variable.sort) (stands_in_none others q.variable.name) refl e
   where
-    by : (a b : Bool) → stands_alone s others q.variable.name ≡ b → (if a || not b then None else Some (gives q)) ≡ Some f → IsSolved g s others l
+    by : (a b : Bool) → stands_in_none others q.variable.name ≡ b → (if a || not b then None else Some (gives q)) ≡ Some f → IsSolved g s others l
     by true b j k = none_some k
     by false false j k = none_some k
     by false true j k = record { equation = q; is = i; alone = j }
@@ -146,13 +144,13 @@ own_ready g v s others l given heads asked = by_form (form_of g l) refl heads as
     by_solved (Some f) e h = inr (solved_is g s others l (equation_of g (l ∷ [])) f refl e, (f, refl))
     by_solved None e h = never_none h
 
-    by_head : (o : Option Form) → head_form l ≡ o → IsHeadAsked g v (first_form o (solved_form g s others (equation_of g (l ∷ [])))) → ¬ (¬ IsAskedTruly g v (first_form o (solved_form g s others (equation_of g (l ∷ [])))) × ⊤) → IsOwnReady g v s others l (first_form o (solved_form g s others (equation_of g (l ∷ []))))
-    by_head (Some f) e k h = inl (λ n. n.0 (head_true g v l.holds l.atom f e k))
+    by_head : (o : Option Form) → head_form g l ≡ o → IsHeadAsked g v (first_form o (solved_form g s others (equation_of g (l ∷ [])))) → ¬ (¬ IsAskedTruly g v (first_form o (solved_form g s others (equation_of g (l ∷ [])))) × ⊤) → IsOwnReady g v s others l (first_form o (solved_form g s others (equation_of g (l ∷ []))))
+    by_head (Some f) e k h = inl (λ n. n.0 (head_true g v l f given e k))
     by_head None e k h = by_solved (solved_form g s others (equation_of g (l ∷ []))) refl h
 
-    by_form : (o : Option Form) → form_of g l ≡ o → IsHeadAsked g v (first_form o (first_form (head_form l) (solved_form g s others (equation_of g (l ∷ []))))) → ¬ (¬ IsAskedTruly g v (first_form o (first_form (head_form l) (solved_form g s others (equation_of g (l ∷ []))))) × ⊤) → IsOwnReady g v s others l (first_form o (first_form (head_form l) (solved_form g s others (equation_of g (l ∷ [])))))
+    by_form : (o : Option Form) → form_of g l ≡ o → IsHeadAsked g v (first_form o (first_form (head_form g l) (solved_form g s others (equation_of g (l ∷ []))))) → ¬ (¬ IsAskedTruly g v (first_form o (first_form (head_form g l) (solved_form g s others (equation_of g (l ∷ []))))) × ⊤) → IsOwnReady g v s others l (first_form o (first_form (head_form g l) (solved_form g s others (equation_of g (l ∷ [])))))
     by_form (Some f) e k h = inl (twice_not (basic_true g v l f given e) h)
-    by_form None e k h = by_head (head_form l) refl k h
+    by_form None e k h = by_head (head_form g l) refl k h
 
 -- ---- a clause of several
 
