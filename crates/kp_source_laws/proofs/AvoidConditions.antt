@@ -4,7 +4,7 @@ use Rattle.std.specs.Prelude.{ℤ, codes, if◌then◌else◌, cond}
 use Rattle.std.specs.List.{AllByRecursion, filter}
 use Rattle.std.specs.Str.{bytes_eq}
 use Rattle.std.specs.Str.Parse.{signed_digits_value}
-use Rattle.kp_kore.specs.Syntax.{Text, KoreSort, KorePattern, KorePatterns, variable, application, literal, negation, conjunction, exists, ceil, equals, membership, no_patterns, next_pattern}
+use Rattle.kp_kore.specs.Syntax.{Text, KoreSort, KorePattern, KorePatterns, variable, application, literal, negation, conjunction, exists, forall, ceil, equals, membership, no_patterns, next_pattern}
 use Rattle.kp_kore.specs.Parts.{SortedName, free_variables}
 use Rattle.kp_kore.specs.Signature.{KoreSignature, is_integer_sort, is_boolean_sort}
 use Rattle.kp_kore.specs.Value.{whole, truth, token}
@@ -12,12 +12,12 @@ use Rattle.kp_kore.specs.Instance.{is_named, literal_value}
 use Rattle.kp_symbolic.specs.Terms.{SymbolicTerm, Replaced, replacement_for}
 use Rattle.kp_symbolic.specs.Alike.{literals_same}
 use Rattle.kp_symbolic.specs.Folding.{term_for, folded, all_folded}
-use Rattle.kp_symbolic.specs.Opening.{fixed, literal_fact, HeadQuestion, head_question, quotation, opened_ceil, opened_leaf, opened_predicate}
+use Rattle.kp_symbolic.specs.Opening.{fixed, literal_fact, HeadQuestion, head_question, denied_question, quotation, opened_ceil, opened_leaf, opened_predicate}
 use Rattle.kp_symbolic.specs.Clauses.{distributed, is_too_large, quoted_literal, clauses_of_conjunct, literals_of_conjunct, clauses_of_conjuncts}
 use Rattle.kp_symbolic.proofs.Distribution.{all_both, kept_are}
 use Rattle.kp_symbolic.proofs.Facts.{AllFacts, clauses_have}
 use Rattle.kp_symbolic.proofs.Opened.{IsClosed}
-use Rattle.kp_symbolic.proofs.Leaf.{asked_formula}
+use Rattle.kp_symbolic.proofs.Leaf.{asked_formula, denied_formula}
 use Rattle.kp_symbolic_laws.proofs.OpenedGood.{LeafHas, opened_has, by_size}
 use Rattle.kp_step.specs.Conditions.{condition_clauses}
 use Rattle.kp_source_laws.specs.Symbols.{AvoidsValue, AvoidsTerm, AvoidTerms, AvoidsPattern, AvoidPatterns, PutAvoids, AvoidsAtom, ClausesAvoid}
@@ -104,11 +104,16 @@ question_avoids : (g : KoreSignature) (f : Text) (rs : List Replaced) (b : Bool)
 question_avoids g f rs b p (Some q) k = test_avoids g f b q.test (literal_fact b (quotation rs p)) (folded g rs q.subject) (quotation_avoids f rs p k)
 question_avoids g f rs b p None k = quotation_avoids f rs p k
 
+denied_avoids : (g : KoreSignature) (f : Text) (rs : List Replaced) (b : Bool) (p : KorePattern) (o : Option HeadQuestion) → PutAvoids f rs → AllFacts (Avoids f) (denied_formula g rs b p o)
+denied_avoids g f rs b p (Some q) k = test_avoids g f (not b) q.test (literal_fact b (quotation rs p)) (folded g rs q.subject) (quotation_avoids f rs p k)
+denied_avoids g f rs b p None k = quotation_avoids f rs p k
+
 leaf_avoids : (g : KoreSignature) (f : Text) (rs : List Replaced) → PutAvoids f rs → LeafHas (Avoids f) (AvoidsPattern f) (opened_leaf g rs)
 leaf_avoids g f rs k alone b (equals a s p q) l h = sides_avoid g f rs alone b a p q k h.0 h.1
 leaf_avoids g f rs k alone b (membership a s p q) l h = sides_avoid g f rs alone b a p q k h.0 h.1
 leaf_avoids g f rs k alone b (ceil a s p) l h = ceil_avoids g f rs alone b a p k h
 leaf_avoids g f rs k alone b (exists s x t p) l h = question_avoids g f rs b (exists s x t p) (head_question g [] (exists s x t p)) k
+leaf_avoids g f rs k alone b (forall s x t p) l h = denied_avoids g f rs b (forall s x t p) (denied_question g [] (forall s x t p)) k
 leaf_avoids g f rs k alone b p l h = quotation_avoids f rs p k
 
 -- ---- clauses
