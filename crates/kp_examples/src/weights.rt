@@ -30,10 +30,13 @@ pub fn bounds_are_plain()
     ensures one_choice { IsWeight product (read (count_with ((is_above true 0 ∷ []) ∷ (x_to true (codes "Lblge") 5 ∷ []) ∷ []))) 1 }
 {}
 
-/// P = pa and Q = Fresh1 are solved, and their opposites ask for a head; in a clause of several, or beside the variable, not.
+/// P = pa asks for a head, and so does its opposite, also beside the variable; Q = Fresh1 is solved, also beside Q, but not where
+/// another clause asks of Q; in a clause of several no head is asked for.
 pub fn heads_are_plain_in_their_own_clause()
     ensures solved { IsPlainState toys_signature (state_of (codes "Lblcount") (unknown x_name) (alone (pa_literal true))) }
-    ensures not_solved { rough_clauses toys_signature (state_of (codes "Lblpick") (unknown p_name) (alone (pa_literal true))) ≡ alone (pa_literal true) }
+    ensures constant { let state = state_of (codes "Lblpick") (unknown p_name) (alone (pa_literal true)) in forms_of state ≡ (Some (asks p_name (one_head (codes "Lblpa")) true) ∷ []) ∷ [] }
+    ensures beside { IsPlainState toys_signature (state_of (codes "Lblnum") (unknown q_name) (alone q_fresh)) }
+    ensures not_solved { let two = (q_fresh ∷ []) ∷ (number_test false ∷ []) ∷ [] in rough_clauses toys_signature (count_with two) ≡ alone q_fresh }
     ensures other { let state = state_of (codes "Lblpick") (unknown p_name) (alone (pa_literal false)) in forms_of state ≡ (Some (asks p_name (one_head (codes "Lblpa")) false) ∷ []) ∷ [] }
     ensures number { let state = state_of (codes "Lblcount") (unknown x_name) (alone q_fresh) in forms_of state ≡ (Some (gives (record { variable = q_name; term = unknown fresh_one })) ∷ []) ∷ [] }
     ensures no_number { let state = state_of (codes "Lblnum") (unknown q_name) (alone (number_test false)) in forms_of state ≡ (Some (asks q_name (head_of_sort sort_int) false) ∷ []) ∷ [] }

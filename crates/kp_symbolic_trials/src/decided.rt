@@ -34,12 +34,14 @@ pub(crate) const SMALL: &str = r#"module SMALL
   hooked-symbol ne{}(I{}, I{}) : B{} [hook{}("INT.ne")]
   hooked-symbol same{}(K{}, K{}) : B{} [hook{}("KEQUAL.eq")]
   hooked-symbol differ{}(K{}, K{}) : B{} [hook{}("KEQUAL.ne")]
+  hooked-symbol alike{}(S{}, S{}) : B{} [hook{}("KEQUAL.eq")]
+  hooked-symbol unlike{}(S{}, S{}) : B{} [hook{}("KEQUAL.ne")]
   axiom{R} \top{R}() [subsort{T{}, K{}}()]
   axiom{R} \top{R}() [subsort{U{}, K{}}()]
 endmodule []
 "#;
 
-/// The literals, each behind its letter. Those from A to P are over X and Y from 0 to 2, and P.
+/// The literals, each behind its letter. Those from A to P are over X and Y from 0 to 2, and P; those from Q on over N.
 const LITERALS: &str = r##"a \equals{B{},S{}}(lt{}(X:I{}, Y:I{}), \dv{B{}}("true"))
 b \equals{B{},S{}}(lt{}(Y:I{}, X:I{}), \dv{B{}}("true"))
 c \equals{I{},S{}}(X:I{}, Y:I{})
@@ -81,7 +83,12 @@ L \equals{I{},S{}}(add{}(X:I{}, \dv{I{}}("1")), Y:I{})
 M \not{S{}}(\equals{B{},S{}}(ne{}(Y:I{}, \dv{I{}}("0")), \dv{B{}}("true")))
 N \equals{B{},S{}}(le{}(add{}(Y:I{}, \dv{I{}}("1")), X:I{}), \dv{B{}}("true"))
 O \equals{B{},S{}}(P:B{}, \dv{B{}}("true"))
-P \not{S{}}(\equals{B{},S{}}(P:B{}, \dv{B{}}("true")))"##;
+P \not{S{}}(\equals{B{},S{}}(P:B{}, \dv{B{}}("true")))
+Q \equals{S{},S{}}(N:S{}, c{}())
+R \equals{B{},S{}}(alike{}(N:S{}, c{}()), \dv{B{}}("true"))
+S \equals{B{},S{}}(\dv{B{}}("false"), unlike{}(c{}(), N:S{}))
+T \not{S{}}(\equals{B{},S{}}(alike{}(N:S{}, c{}()), \dv{B{}}("true")))
+U \equals{S{},S{}}(d{}(), N:S{})"##;
 
 /// The literal of a letter, as it is written.
 fn predicate_of(letter: u8) -> &'static str {

@@ -34,7 +34,16 @@ n;o;p -> some
 q;r -> some
 qr -> open
 s;e -> some
-t;e -> open
+t;e -> some
+t;Q -> open
+# the term's N is c, also as calls say it; it isn't c; it is d; which of both it is isn't said plainly
+Q -> some
+R;S -> some
+Q;U -> none
+R;U -> none
+S;T -> none
+T;U -> some
+QU -> open
 # X * X = 5 isn't decided
 j -> open
 je -> some
