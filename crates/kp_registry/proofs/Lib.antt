@@ -1,6 +1,7 @@
 pub mod Ascii
 pub mod Binders
 pub mod Continuing
+pub mod Crossing
 pub mod Entering
 pub mod Extended
 pub mod KnownBooks
