@@ -13,9 +13,10 @@ use Rattle.kp_additions.proofs.Later.{long_as}
 use Rattle.kp_conn.specs.Conversations.{IsBroken, IsServed, Sees, ended, truncated, too_long, spent, not_read, not_written, out_of_memory}
 use Rattle.kp_conn.specs.declared.served.Served.{Served}
 use Rattle.kp_conn.specs.declared.served.Served.TheVariants as served
+use Rattle.kp_service.specs.Alone.{AreAllOwn}
 use Rattle.kp_service.specs.Answers.{IsAnswer, IsBegun}
 use Rattle.kp_program.specs.Inputs.{IsTableOf}
-use Rattle.kp_program.specs.Served.{AreAllOwn, BreaksFile, BreaksOff, IsWhole, OverFile, ServesInput}
+use Rattle.kp_program.specs.Served.{BreaksFile, BreaksOff, IsWhole, OverFile, ServesInput}
 use Rattle.kp_program.specs.Troubles.{IsLate}
 use Rattle.kp_program.specs.declared.trouble.Trouble.{Trouble}
 use Rattle.kp_program.specs.declared.trouble.Trouble.TheVariants as trouble

@@ -2,19 +2,19 @@
 -- The file's bytes spell a definition; its modules are bound from the start; the frames of the input were answered one
 -- after another, each at the book of modules that those before it made of an empty one.
 -- Source: Kore text; JSON-RPC 2.0 over a stream; the K Haskell backend's JSON-RPC documentation (stdio, add-module).
-use Rattle.std.specs.Prelude.{◌≡◌, ◌<◌, ◌≤◌, ◌⊎◌, ℕ, List, length, take, Option, Some, IfSome, ⊤}
+use Rattle.std.specs.Prelude.{◌≡◌, ◌⊎◌, ℕ, List, take, Option, Some, IfSome, ⊤}
 use Rattle.std.specs.Io.KnownBytes.{Appends}
 use Rattle.kp_kore.specs.Syntax.{Text, KoreDefinition}
 use Rattle.kp_io.specs.Outside.{Names}
 use Rattle.kp_text.specs.Spelling.{SpellsDefinition}
 use Rattle.kp_additions.specs.Served.{nothing_seen}
 use Rattle.kp_book.specs.Books.{Opening, Seen}
-use Rattle.kp_history.specs.Views.{times}
 use Rattle.kp_modules.specs.Openings.{opening_of}
 use Rattle.kp_registry.specs.Legal.{IsLegal}
 use Rattle.kp_conn.specs.Conversations.{IsBroken, IsServed}
 use Rattle.kp_conn.specs.declared.served.Served.{Served}
 use Rattle.kp_conn.specs.declared.served.Served.TheVariants as served
+use Rattle.kp_service.specs.Alone.{AreAllOwn}
 use Rattle.kp_service.specs.Answers.{IsAnswer, IsBegun}
 use Rattle.kp_program.specs.Faults.{IsFaultless}
 use Rattle.kp_program.specs.Words.{SpellsStdio}
@@ -30,10 +30,6 @@ IsWhole served.Spent = ⊤
 IsWhole served.ReadFault = ⊥
 IsWhole served.WriteFault = ⊥
 IsWhole served.Memory = ⊥
-
--- the book has no entries but those of the connection's own, each once
-abbrev pub AreAllOwn : Seen → Type 0
-AreAllOwn seen = (x : ℕ) → 0 < x → x ≤ length seen.book → times x seen.own ≡ 1
 
 -- over this opening all frames of the input were answered, and the output got their replies; these modules were added
 pub record ServesInput (o : Opening) (left left_after held held_after : Option (List ℕ)) : Type 0 where
