@@ -4,11 +4,13 @@
 #![tactic(auto)]
 
 mod circle;
+mod ground;
 mod labels;
 pub mod laws;
 mod module;
 mod read;
 mod used;
 
+pub use ground::read_plain_claims;
 pub use module::{claim_axiom, module_text};
 pub use read::read_claims;

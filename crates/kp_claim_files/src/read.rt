@@ -2,7 +2,7 @@
 ghost use Rattle.std.specs.Prelude.{◌≡◌, ◌++◌, [], List, Some, None, IfOk, IfErr, OnOk, string_bytes};
 ghost use Rattle.std.specs.List.{AllZip};
 ghost use Rattle.kp_kore.specs.Syntax.{Text, KoreModule, claim_sentence};
-ghost use Rattle.kp_kore.specs.View.{axiom_sentence_view, sentence_view};
+ghost use Rattle.kp_kore.specs.View.{view, axiom_sentence_view, sentence_view};
 ghost use Rattle.kp_signature.specs.View.{signature_view};
 ghost use Rattle.kp_rules.specs.Index.{IsIndexOf};
 ghost use Rattle.kp_claims.specs.Claims.{counted};
@@ -158,15 +158,24 @@ fn item_of(
 ) -> Result<FiledClaim, AllocError>
     ensures item { IfOk result (λ i. item_view i ≡ claim_between (string_bytes label) (axiom_sentence_view statement.now) (sides_view sides.entry)) }
 {
+    let claim = copied_sides(alloc, sides)?;
+    let depends = dependencies_of(alloc, &statement.attributes)?;
+    let pattern = statement.pattern.copy(alloc)?;
     Ok(FiledClaim {
         label,
         sort: sides.sort.copy(alloc)?,
-        pattern: statement.pattern.copy(alloc)?,
-        claim: Claim {
-            left: sides.left.copy(alloc)?,
-            right: sides.right.copy(alloc)?,
-        },
+        pattern,
+        claim,
         circular: has_mark(&statement.attributes, "circularity"),
-        depends: dependencies_of(alloc, &statement.attributes)?,
+        depends,
     })
+}
+
+/// The sides once more.
+fn copied_sides(alloc: Global, sides: ClaimOutline<'_>) -> Result<Claim, AllocError>
+    ensures { IfOk result (λ c. (view c.left ≡ view sides.entry.left.now) × (view c.right ≡ view sides.entry.right.now)) }
+{
+    let left = sides.left.copy(alloc)?;
+    let right = sides.right.copy(alloc)?;
+    Ok(Claim { left, right })
 }

@@ -1,19 +1,15 @@
 -- One more sentence, and lists of claims.
-use Rattle.std.proofs.Common.{◌≡◌, refl, sym, ap, subst, ◌∙◌, ℕ, suc, ◌+◌, ◌<◌, List, [], ◌∷◌, ◌++◌, length, take, drop, get_or, Bor, Result, Ok, Err, arith}
+use Rattle.std.proofs.Common.{◌≡◌, sym, ap, subst, ◌∙◌, ℕ, suc, ◌+◌, ◌<◌, List, [], ◌∷◌, ◌++◌, length, take, drop, get_or, Bor, Result, Ok, Err, arith}
 use Rattle.std.specs.Prelude.{IsErr, IsErrAnd, IfErr}
 use Rattle.std.specs.List.{AllZip}
 use Rattle.std.proofs.Math.Seq.{take-suc}
 use Rattle.std.proofs.lemmas.List.{map-append, take-append-drop, append-nil, append_assoc}
-use Rattle.kp_kore.specs.Syntax.{Text, KoreSentence, KoreModule}
-use Rattle.kp_kore.specs.Signature.{KoreSignature}
+use Rattle.kp_kore.specs.Syntax.{KoreSentence}
 use Rattle.kp_kore.specs.View.{sentence_view}
 use Rattle.kp_kore.specs.declared.sentence.Sentence.{Sentence}
-use Rattle.kp_claims.specs.Claims.{counted}
-use Rattle.kp_claims.specs.Faults.{label_at, labels_of, IsFaultless, AreFaultless, IsFaultAt, IsFirstFault, IsErrorOf, IsTextError, TellsOf}
-use Rattle.kp_claims.specs.Files.{SpellsFile}
+use Rattle.kp_claims.specs.Faults.{label_at, labels_of}
 use Rattle.kp_claims.specs.Sentences.{seen}
 use Rattle.kp_claims.specs.declared.fault.ClaimError.{ClaimError}
-use Rattle.kp_claims.specs.declared.fault.ClaimError.TheVariants as error
 
 -- ---- sentences seen
 
@@ -29,23 +25,11 @@ seen_split ss i d h read =
     ∙ ap (λ l. l ++ seen (drop (i + 1) ss)) (seen_more ss i d h read)
     ∙ append_assoc (seen (take i ss)) (sentence_view d.now ∷ []) (seen (drop (i + 1) ss))
 
--- ---- labels and faults
+-- ---- labels and lists
 
 pub labels_more : (ss : List KoreSentence) (s : KoreSentence) → labels_of (ss ++ s ∷ []) ≡ labels_of ss ++ label_at s
 labels_more [] s = append-nil (label_at s)
 labels_more (x ∷ xs) s = ap (λ l. label_at x ++ l) (labels_more xs s) ∙ sym (append_assoc (label_at x) (labels_of xs) (label_at s))
-
-pub faultless_after : (g : KoreSignature) (before : List Text) (ss : List KoreSentence) (s : KoreSentence) → AreFaultless g before ss → IsFaultless g (before ++ labels_of ss) s → AreFaultless g before (ss ++ s ∷ [])
-faultless_after g before [] s h f = (subst (λ l. IsFaultless g l s) (append-nil before) f, tt)
-faultless_after g before (x ∷ xs) s h f = (h.0, faultless_after g (before ++ label_at x) xs s h.1 (subst (λ l. IsFaultless g l s) (sym (append_assoc before (label_at x) (labels_of xs))) f))
-
-pub faultless_more : (g : KoreSignature) (ss : List KoreSentence) (s : KoreSentence) → AreFaultless g [] ss → IsFaultless g (labels_of ss) s → AreFaultless g [] (ss ++ s ∷ [])
-faultless_more g ss s h f = faultless_after g [] ss s h f
-
-pub tells_first : (g : KoreSignature) (all before behind : List KoreSentence) (s : KoreSentence) (e : ClaimError) → all ≡ before ++ s ∷ behind → AreFaultless g [] before → TellsOf (IsFaultAt g (labels_of before) s) e → TellsOf (IsFirstFault g all) e
-tells_first g all before behind s error.Memory are h t = tt
-tells_first g all before behind s (error.Text f) are h t = absurd t
-tells_first g all before behind s (error.Fault f) are h t = record { fault = t.fault; told = t.told; holds = record { before = before; at = s; behind = behind; are = are; faultless = h; fault = t.holds } }
 
 pub zip_push : {A B : Type 0} (R : A → B → Type 0) (xs : List A) (ys : List B) (x : A) (y : B) → AllZip R xs ys → R x y → AllZip R (xs ++ x ∷ []) (ys ++ y ∷ [])
 zip_push R [] [] x y h r = (r, tt)
@@ -58,13 +42,3 @@ zip_push R (a ∷ xs) (b ∷ ys) x y h r = (h.0, zip_push R xs ys x y h.1 r)
 pub exit : {X : Type 0} (r : Result X ClaimError) (P : ClaimError → Type 0) (e : ClaimError) → IsErr r × IsErrAnd r (λ y. y ≡ e) → P e → IfErr r P
 exit (Ok x) P e h p = tt
 exit (Err y) P e h p = subst P (sym h.1) p
-
-pub text_error : (g : KoreSignature) (bytes : List ℕ) (e : ClaimError) → IsTextError bytes e → IsErrorOf g bytes e
-text_error g bytes error.Memory h = tt
-text_error g bytes (error.Text f) h = h
-text_error g bytes (error.Fault f) h = absurd h
-
-pub sentence_error : (g : KoreSignature) (bytes : List ℕ) (ms : List KoreModule) (e : ClaimError) → SpellsFile bytes ms → TellsOf (IsFirstFault g (counted ms)) e → IsErrorOf g bytes e
-sentence_error g bytes ms error.Memory spells t = tt
-sentence_error g bytes ms (error.Text f) spells t = absurd t
-sentence_error g bytes ms (error.Fault f) spells t = (ms, spells, t)

@@ -1,14 +1,13 @@
 -- What weakAlwaysFinally takes, and the faults of outlines.
 use Rattle.std.proofs.Common.{◌≡◌, refl, sym, ap, ◌∙◌, Bool, true, false, ◌&&◌, cond, List, [], ◌∷◌, length, get_or, Some, None, codes}
 use Rattle.std.specs.Str.{bytes_eq}
-use Rattle.kp_kore.specs.Syntax.{Text, KoreSort, KorePattern, Statement, application}
+use Rattle.kp_kore.specs.Syntax.{Text, KoreSort, KorePattern, application}
 use Rattle.kp_kore.specs.Attributes.{sorts_equal}
 use Rattle.kp_kore.specs.View.{view, sort_view, sorts_view, patterns_view}
 use Rattle.kp_kore.specs.declared.sort.Sort.{Sort}
 use Rattle.kp_kore.specs.declared.pattern.Pattern.{Pattern}
 use Rattle.kp_kore.proofs.SameLemmas.{sorts_equal-Decides}
-use Rattle.kp_claims.specs.Claims.{is_one_path, ground_sides, reached_on_all}
-use Rattle.kp_claims.specs.Faults.{one_path, other_shape, outline_fault}
+use Rattle.kp_claims.specs.Claims.{reached_on_all}
 
 pub other_sorts : (s : KoreSort) (f : Text) (ss : List Sort) (ps : List Pattern) → (length ss ≡ 1 → ⊥) → reached_on_all s (application f (sorts_view ss) (patterns_view ps)) ≡ None
 other_sorts s f [] ps h = refl
@@ -48,9 +47,3 @@ other_sort s f (u ∷ (v ∷ us)) ps t h e n = absurd (cc)
 other_sort s f (u ∷ []) [] t h e n = refl
 other_sort s f (u ∷ []) (q ∷ (r ∷ qs)) t h e n = refl
 other_sort s f (u ∷ []) (q ∷ []) t h e n = another_sort s (sort_view u) (bytes_eq f (codes "weakAlwaysFinally")) (view q) (λ k. n (k ∙ ap sort_view (sym e)))
-
-pub one_path_told : (s : Statement) → is_one_path s.pattern ≡ true → outline_fault s ≡ Some one_path
-one_path_told s h = rw h refl
-
-pub other_shape_told : (s : Statement) → is_one_path s.pattern ≡ false → ground_sides s ≡ None → outline_fault s ≡ Some other_shape
-other_shape_told s h none = rw (h, none) refl

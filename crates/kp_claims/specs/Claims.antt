@@ -1,16 +1,13 @@
--- Reachability claims as they stand in a claims file.
+-- The sentences of a claims file, and a claim's sides and label.
 -- Source: claims of the K framework as kompile writes them (weakAlwaysFinally over all paths, weakExistsFinally over one
--- path, the attributes label, circularity and depends); All-Path Reachability Logic (Stefanescu, Ciobaca, Mereuta,
--- Moore, Serbanuta, Rosu).
-use Rattle.std.specs.Prelude.{◌≡◌, ℕ, Bool, true, false, not, ◌&&◌, ◌||◌, List, [], ◌∷◌, ◌++◌, Option, Some, None, if◌then◌else◌, ◌==◌, nat_le, nat_lt, length, codes}
+-- path, the attribute label); All-Path Reachability Logic (Stefanescu, Ciobaca, Mereuta, Moore, Serbanuta, Rosu).
+use Rattle.std.specs.Prelude.{ℕ, Bool, true, false, not, ◌&&◌, ◌||◌, List, [], ◌∷◌, ◌++◌, Option, Some, None, if◌then◌else◌, ◌==◌, nat_le, nat_lt, length, codes}
 use Rattle.std.specs.Option.{option_map}
 use Rattle.std.specs.List.{list_all, filter}
 use Rattle.std.specs.Str.{bytes_eq}
-use Rattle.kp_kore.specs.Syntax.{Text, KoreSort, no_sorts, next_sort, KorePattern, application, implication, KorePatterns, no_patterns, next_pattern, Statement, KoreSentence, import_sentence, sort_sentence, symbol_sentence, alias_sentence, axiom_sentence, claim_sentence, KoreModule}
-use Rattle.kp_kore.specs.Attributes.{sorts_equal, has_mark, text_of}
-use Rattle.kp_kore.specs.Parts.{SortedName, is_term, free_variables}
+use Rattle.kp_kore.specs.Syntax.{Text, KoreSort, no_sorts, next_sort, KorePattern, application, implication, KorePatterns, no_patterns, next_pattern, KoreSentence, import_sentence, sort_sentence, symbol_sentence, alias_sentence, axiom_sentence, claim_sentence, KoreModule}
+use Rattle.kp_kore.specs.Attributes.{sorts_equal, text_of}
 use Rattle.kp_kore.specs.Rules.{is_rewriting}
-use Rattle.kp_kore.specs.Claims.{ReachabilityClaim}
 
 -- ---- sentences
 
@@ -56,15 +53,7 @@ abbrev pub sides_of : KorePattern → Option ClaimSides
 sides_of (implication s p q) = option_map (λ r. record { sort = s; left = p; right = r }) (reached_on_all s q)
 sides_of _ = None
 
--- ---- which claims are read today
-
-abbrev pub has_none : List SortedName → Bool
-has_none [] = true
-has_none (v ∷ vs) = false
-
--- one term without variables
-abbrev pub is_ground : KorePattern → Bool
-is_ground p = is_term p && has_none (free_variables p)
+-- ---- what a claim has besides
 
 -- whether an attribute of this name is among them, whatever it has
 abbrev pub has_attribute : Text → KorePatterns → Bool
@@ -74,18 +63,6 @@ has_attribute name (next_pattern p ps) = is_applied name p || has_attribute name
 abbrev pub is_without_parameters : List Text → Bool
 is_without_parameters [] = true
 is_without_parameters (n ∷ ns) = false
-
--- a claim without sort parameters that is no circularity and depends on no other
-abbrev pub is_plain : Statement → Bool
-is_plain s = is_without_parameters s.parameters && not (has_mark (codes "circularity") s.attributes) && not (has_attribute (codes "depends") s.attributes)
-
-abbrev pub if_ground : Option ClaimSides → Option ClaimSides
-if_ground None = None
-if_ground (Some c) = if is_ground c.left && is_ground c.right then Some c else None
-
--- the sides of a plain claim between ground terms
-abbrev pub ground_sides : Statement → Option ClaimSides
-ground_sides s = if is_plain s then if_ground (sides_of s.pattern) else None
 
 -- ---- labels
 
@@ -103,31 +80,3 @@ if_label (Some t) = if is_label t then Some t else None
 -- the text of label{}(".."), where it is a label
 abbrev pub label_of : KorePatterns → Option Text
 label_of attributes = if_label (text_of (codes "label") attributes)
-
--- ---- claims as they are read
-
--- a claim with its label, and the labels that it depends on
-pub record LabelledClaim : Type 0 where
-  pub label : Text
-  pub pattern : KorePattern
-  pub claim : ReachabilityClaim
-  pub circular : Bool
-  pub depends : List Text
-
--- the claim that a statement makes
-pub record IsClaimOf (s : Statement) (c : LabelledClaim) : Type 0 where
-  pub label : label_of s.attributes ≡ Some c.label
-  pub pattern : c.pattern ≡ s.pattern
-  pub sort : KoreSort
-  pub sides : sides_of s.pattern ≡ Some (record { sort = sort; left = c.claim.left; right = c.claim.right })
-  pub not_circular : c.circular ≡ false
-  pub independent : c.depends ≡ []
-
--- the same of a sentence; sentences of other kinds make none
-abbrev pub IsClaimOfSentence : KoreSentence → LabelledClaim → Type 0
-IsClaimOfSentence (claim_sentence s) c = IsClaimOf s c
-IsClaimOfSentence (import_sentence n as_) c = ⊥
-IsClaimOfSentence (sort_sentence d) c = ⊥
-IsClaimOfSentence (symbol_sentence d) c = ⊥
-IsClaimOfSentence (alias_sentence d) c = ⊥
-IsClaimOfSentence (axiom_sentence s) c = ⊥

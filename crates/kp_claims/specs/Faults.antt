@@ -1,19 +1,14 @@
--- The faults of a claims file and their order: that of the first sentence that has one, and of a claim's faults the first.
-use Rattle.std.specs.Prelude.{◌≡◌, ◌⊎◌, ℕ, true, List, [], ◌∷◌, ◌++◌, Option, Some, None, if◌then◌else◌, ⊤, option_to_list, codes, string_bytes}
-use Rattle.std.specs.Option.{option_map, is_some}
+-- The faults of a claims file, their codes, and how they are told.
+use Rattle.std.specs.Prelude.{◌≡◌, ℕ, List, [], ◌∷◌, ◌++◌, Option, Some, None, if◌then◌else◌, ⊤, option_to_list, codes, string_bytes}
+use Rattle.std.specs.Option.{option_map}
 use Rattle.std.specs.List.{list_any}
 use Rattle.std.specs.Str.{bytes_eq}
-use Rattle.kp_kore.specs.Syntax.{Text, KorePattern, implication, Statement, KoreSentence, import_sentence, sort_sentence, symbol_sentence, alias_sentence, axiom_sentence, claim_sentence, KoreModule}
-use Rattle.kp_kore.specs.Signature.{KoreSignature}
+use Rattle.kp_kore.specs.Syntax.{Text, KorePattern, implication, KoreSentence, import_sentence, sort_sentence, symbol_sentence, alias_sentence, axiom_sentence, claim_sentence}
 use Rattle.kp_text.specs.Spelling.{IsFaultOf}
 use Rattle.kp_signature.specs.Faults as verify
-use Rattle.kp_signature.specs.Places.{earlier, the_top}
-use Rattle.kp_signature.specs.Verify.{VerifyFault, first_fault}
-use Rattle.kp_kore.specs.Instance.{Valuation}
-use Rattle.kp_kore.specs.Numbers.{computes_wide}
-use Rattle.kp_compile.specs.Spelled.{first_foreign}
-use Rattle.kp_claims.specs.Claims.{counted, ClaimSides, is_one_path, ground_sides, label_of}
-use Rattle.kp_claims.specs.Files.{IsFileText, SpellsFile}
+use Rattle.kp_signature.specs.Verify.{VerifyFault}
+use Rattle.kp_claims.specs.Claims.{ClaimSides, label_of}
+use Rattle.kp_claims.specs.Files.{IsFileText}
 use Rattle.kp_claims.specs.declared.fault.ClaimError.{ClaimError}
 use Rattle.kp_claims.specs.declared.fault.ClaimError.TheVariants as error
 use Rattle.kp_claims.specs.declared.fault.ClaimFault.{ClaimFault}
@@ -71,14 +66,7 @@ fault_code told.NoRule = codes "C8"
 fault_code (told.UnknownLabel l) = codes "C4"
 fault_code (told.Circle l) = codes "C5"
 
--- ---- the first fault of a claim
-
--- C1, then C2
-abbrev pub outline_fault : Statement → Option Fault
-outline_fault s =
-    if is_one_path s.pattern then Some one_path
-    else if is_some (ground_sides s) then None
-    else Some other_shape
+-- ---- parts of a first fault
 
 -- C6, then C7 after claims with these labels
 abbrev pub label_fault : List Text → Option Text → Option Fault
@@ -89,44 +77,7 @@ label_fault labels (Some l) = if list_any (bytes_eq l) labels then Some (repeate
 abbrev pub bare_claim : ClaimSides → KorePattern
 bare_claim c = implication c.sort c.left c.right
 
--- C9: the first fault of that pattern, then its first foreign symbol
-abbrev pub meaning_fault : KoreSignature → Option ClaimSides → Option Fault
-meaning_fault g None = None
-meaning_fault g (Some c) = earlier (option_map unverified (first_fault g the_top (bare_claim c))) (option_map foreign_symbol (first_foreign g (bare_claim c)))
-
-abbrev pub claim_fault : KoreSignature → List Text → Statement → Option Fault
-claim_fault g labels s = earlier (outline_fault s) (earlier (label_fault labels (label_of s.attributes)) (meaning_fault g (ground_sides s)))
-
--- a call in the term computes a number beyond 128 bits
-abbrev pub IsWide : KoreSignature → KorePattern → Type 0
-IsWide g p = (v : Valuation) → computes_wide g v p ≡ true
-
-abbrev pub HasWideSide : KoreSignature → ClaimSides → Type 0
-HasWideSide g c = IsWide g c.left ⊎ IsWide g c.right
-
-abbrev pub IsWideClaim : KoreSignature → Option ClaimSides → Type 0
-IsWideClaim g None = ⊥
-IsWideClaim g (Some c) = HasWideSide g c
-
--- C2 that comes last
-abbrev pub IsNumberFault : KoreSignature → Option ClaimSides → Fault → Type 0
-IsNumberFault g c f = IsWideClaim g c × (f ≡ other_shape)
-
--- the first fault of the sides alone
-abbrev pub IsFaultOfSides : KoreSignature → ClaimSides → Fault → Type 0
-IsFaultOfSides g c f = (meaning_fault g (Some c) ≡ Some f) ⊎ ((meaning_fault g (Some c) ≡ None) × IsNumberFault g (Some c) f)
-
-abbrev pub AreFaultlessSides : KoreSignature → ClaimSides → Type 0
-AreFaultlessSides g c = (meaning_fault g (Some c) ≡ None) × ¬ IsWideClaim g (Some c)
-
--- the first fault of the claim
-abbrev pub IsFaultOfClaim : KoreSignature → List Text → Statement → Fault → Type 0
-IsFaultOfClaim g labels s f = (claim_fault g labels s ≡ Some f) ⊎ ((claim_fault g labels s ≡ None) × IsNumberFault g (ground_sides s) f)
-
-abbrev pub IsFaultlessClaim : KoreSignature → List Text → Statement → Type 0
-IsFaultlessClaim g labels s = (claim_fault g labels s ≡ None) × ¬ IsWideClaim g (ground_sides s)
-
--- ---- the first fault of a file
+-- ---- labels
 
 -- the label of a claim
 abbrev pub label_at : KoreSentence → List Text
@@ -141,36 +92,7 @@ abbrev pub labels_of : List KoreSentence → List Text
 labels_of [] = []
 labels_of (s ∷ ss) = label_at s ++ labels_of ss
 
--- the fault of a sentence that counts, after claims with these labels
-abbrev pub IsFaultAt : KoreSignature → List Text → KoreSentence → Fault → Type 0
-IsFaultAt g labels (claim_sentence s) f = IsFaultOfClaim g labels s f
-IsFaultAt g labels (import_sentence n as_) f = f ≡ other_shape
-IsFaultAt g labels (sort_sentence d) f = f ≡ other_shape
-IsFaultAt g labels (symbol_sentence d) f = f ≡ other_shape
-IsFaultAt g labels (alias_sentence d) f = f ≡ other_shape
-IsFaultAt g labels (axiom_sentence s) f = f ≡ other_shape
-
-abbrev pub IsFaultless : KoreSignature → List Text → KoreSentence → Type 0
-IsFaultless g labels (claim_sentence s) = IsFaultlessClaim g labels s
-IsFaultless g labels (import_sentence n as_) = ⊥
-IsFaultless g labels (sort_sentence d) = ⊥
-IsFaultless g labels (symbol_sentence d) = ⊥
-IsFaultless g labels (alias_sentence d) = ⊥
-IsFaultless g labels (axiom_sentence s) = ⊥
-
--- none of the sentences has a fault, each after the labels before it
-abbrev pub AreFaultless : KoreSignature → List Text → List KoreSentence → Type 0
-AreFaultless g labels [] = ⊤
-AreFaultless g labels (s ∷ ss) = IsFaultless g labels s × AreFaultless g (labels ++ label_at s) ss
-
--- the fault of the first of the sentences that has one
-pub record IsFirstFault (g : KoreSignature) (ss : List KoreSentence) (f : Fault) : Type 0 where
-  pub before : List KoreSentence
-  pub at : KoreSentence
-  pub behind : List KoreSentence
-  pub are : ss ≡ before ++ at ∷ behind
-  pub faultless : AreFaultless g [] before
-  pub fault : IsFaultAt g (labels_of before) at f
+-- ---- what is told
 
 -- a fault that is told, and of which this holds
 pub record Tells (e : ClaimFault) (Holds : Fault → Type 0) : Type 0 where
@@ -178,19 +100,13 @@ pub record Tells (e : ClaimFault) (Holds : Fault → Type 0) : Type 0 where
   pub told : told_fault e ≡ Some fault
   pub holds : Holds fault
 
--- want of memory says nothing; a text fault is that of the bytes, any other that of the sentences that they spell
-abbrev pub IsErrorOf : KoreSignature → List ℕ → ClaimError → Type 0
-IsErrorOf g bytes error.Memory = ⊤
-IsErrorOf g bytes (error.Text f) = IsFaultOf IsFileText bytes f
-IsErrorOf g bytes (error.Fault e) = (ms : List KoreModule) × SpellsFile bytes ms × Tells e (IsFirstFault g (counted ms))
-
--- the same of the bytes alone
+-- want of memory says nothing; a text fault is that of the bytes
 abbrev pub IsTextError : List ℕ → ClaimError → Type 0
 IsTextError bytes error.Memory = ⊤
 IsTextError bytes (error.Text f) = IsFaultOf IsFileText bytes f
 IsTextError bytes (error.Fault e) = ⊥
 
--- the same of sentences and of one sentence, where no text is read
+-- the same of sentences and of one sentence, where no text is read: a fault of which this holds
 abbrev pub TellsOf : (Fault → Type 0) → ClaimError → Type 0
 TellsOf Holds error.Memory = ⊤
 TellsOf Holds (error.Text f) = ⊥

@@ -1,6 +1,5 @@
 pub mod Claims
 pub mod Faults
 pub mod Files
-pub mod Items
 pub mod Sentences
 pub mod Sides

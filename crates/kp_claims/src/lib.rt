@@ -1,17 +1,13 @@
-// Reachability claims read from Kore text: the claims of a file in order, each with its label and its sides, or the first
-// fault. specs/Claims.antt says what a claim is, specs/Faults.antt which fault comes first. Today a claim is read that
-// goes from one ground term to another, over all paths, and is no circularity and depends on no other.
+// What stands in a claims file, and its sentences: the modules that its text spells, the labels and sides of claims, and
+// the faults of both. specs/Claims.antt says what sentences count and what a claim's sides are, specs/Faults.antt which
+// faults there are.
 #![tactic(auto)]
 
 mod fault;
 pub mod file;
-mod item;
 pub mod label;
 pub mod outline;
-mod read;
 pub mod sentences;
 pub mod sides;
 
 pub use fault::{ClaimError, ClaimFault};
-pub use item::ClaimItem;
-pub use read::read_claims;

@@ -3,8 +3,8 @@ ghost use Rattle.kp_io.specs.Outside.{Rose};
 ghost use Rattle.kp_kore.specs.Parts.{free_variables};
 ghost use Rattle.kp_kore.specs.Claims.{Holds};
 ghost use Rattle.kp_kore.specs.ClaimView.{claim_view};
-ghost use Rattle.kp_claims.specs.Claims.{LabelledClaim};
-ghost use Rattle.kp_claims.specs.Items.{items_view};
+ghost use Rattle.kp_claim_sentences.specs.Claims.{StatedClaim};
+ghost use Rattle.kp_claim_sentences.specs.Items.{items_view};
 ghost use Rattle.kp_graph.specs.Tree.{IsTree, node_at, with_hold, rounds, status_of};
 ghost use Rattle.kp_graph.specs.Says.{TreeSays};
 ghost use Rattle.kp_graph.specs.TreeView.{tree_view};
@@ -20,7 +20,7 @@ use crate::ending::ending;
 use crate::link::Link;
 use crate::outcome::{ProofEnd, ProveFault, ProveOptions};
 use crate::round::play_round;
-use kp_claims::ClaimItem;
+use kp_claim_sentences::FiledClaim;
 use kp_graph::{Tree, Why};
 use kp_kore::Claim;
 use std::alloc::Global;
@@ -121,20 +121,20 @@ pub fn prove_claim<L: Link>(
 pub fn prove<L: Link>(
     alloc: Global,
     link: &mut L,
-    claims: &[ClaimItem],
+    claims: &[FiledClaim],
     place: usize,
     options: &ProveOptions,
 ) -> Result<(ProofEnd, Tree), ProveFault>
     requires place { place < length claims.now }
     // of the claim at that place, as of each claim that is proved
-    ensures proved { (i : LabelledClaim) → let claims' = items_view claims.now in slice_get claims' place ≡ Some i → IfOk result (λ r. IsProved (L.told link.old) (L.told link.new) i.claim options.now.max_depth (tree_view r.1) (outcome_view r.0)) }
+    ensures proved { (i : StatedClaim) → let claims' = items_view claims.now in slice_get claims' place ≡ Some i → IfOk result (λ r. IsProved (L.told link.old) (L.told link.new) i.claim.claim options.now.max_depth (tree_view r.1) (outcome_view r.0)) }
     ensures shape { IfOk result (λ r. IsTree (tree_view r.1)) }
-    ensures first { (i : LabelledClaim) → let claims' = items_view claims.now in slice_get claims' place ≡ Some i → IfOk result (λ r. option_map (λ x. x.state) (node_at (tree_view r.1) 1) ≡ Some i.claim.left) }
+    ensures first { (i : StatedClaim) → let claims' = items_view claims.now in slice_get claims' place ≡ Some i → IfOk result (λ r. option_map (λ x. x.state) (node_at (tree_view r.1) 1) ≡ Some i.claim.claim.left) }
     ensures status { IfOk result (λ r. outcome_view r.0 ≡ passed → status_of (tree_view r.1) ≡ Passed) }
-    ensures says { (i : LabelledClaim) (t : ToldTheory) → let claims' = items_view claims.now in slice_get claims' place ≡ Some i → Serves (L.told link.old) t → free_variables i.claim.right ≡ [] → IfOk result (λ r. TreeSays t.theory [] [] i.claim (tree_view r.1)) }
-    ensures holds { (i : LabelledClaim) (t : ToldTheory) → let claims' = items_view claims.now in slice_get claims' place ≡ Some i → Serves (L.told link.old) t → IsGround i.claim → IfOk result (λ r. outcome_view r.0 ≡ passed → Holds t.theory i.claim) }
-    ensures stuck { (i : LabelledClaim) (t : ToldTheory) (n : ℕ) → let claims' = items_view claims.now in slice_get claims' place ≡ Some i → Serves (L.told link.old) t → IfOk result (λ r. outcome_view r.0 ≡ failed_at n → IsStuckAt t.theory i.claim (tree_view r.1) n) }
-    ensures broken { (i : LabelledClaim) → let claims' = items_view claims.now in slice_get claims' place ≡ Some i → OnErr result (Made (L.told link.old) (L.told link.new) (BreaksOff i.claim options.now.max_depth)) }
+    ensures says { (i : StatedClaim) (t : ToldTheory) → let claims' = items_view claims.now in slice_get claims' place ≡ Some i → Serves (L.told link.old) t → free_variables i.claim.claim.right ≡ [] → IfOk result (λ r. TreeSays t.theory [] [] i.claim.claim (tree_view r.1)) }
+    ensures holds { (i : StatedClaim) (t : ToldTheory) → let claims' = items_view claims.now in slice_get claims' place ≡ Some i → Serves (L.told link.old) t → IsGround i.claim.claim → IfOk result (λ r. outcome_view r.0 ≡ passed → Holds t.theory i.claim.claim) }
+    ensures stuck { (i : StatedClaim) (t : ToldTheory) (n : ℕ) → let claims' = items_view claims.now in slice_get claims' place ≡ Some i → Serves (L.told link.old) t → IfOk result (λ r. outcome_view r.0 ≡ failed_at n → IsStuckAt t.theory i.claim.claim (tree_view r.1) n) }
+    ensures broken { (i : StatedClaim) → let claims' = items_view claims.now in slice_get claims' place ≡ Some i → OnErr result (Made (L.told link.old) (L.told link.new) (BreaksOff i.claim.claim options.now.max_depth)) }
     ensures link_fault { IsErrOf result LinkFault → Rose (L.told link.old).faults (L.told link.new).faults }
 {
     let item = &claims[place];

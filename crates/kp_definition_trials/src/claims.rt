@@ -1,6 +1,7 @@
 use crate::claim_files::add_error;
 use crate::rows::{Asked, Table, first_failed};
-use kp_claims::{ClaimItem, read_claims};
+use kp_claim_files::read_plain_claims;
+use kp_claim_sentences::FiledClaim;
 use kp_signature::Signature;
 use std::alloc::{AllocError, Global};
 
@@ -16,7 +17,7 @@ endmodule []
 "#;
 
 /// Adds the labels, each ended by a semicolon.
-fn add_labels(items: &[ClaimItem], told: &mut String) -> Result<(), AllocError> {
+fn add_labels(items: &[FiledClaim], told: &mut String) -> Result<(), AllocError> {
     for item in items {
         told.push_str(item.label.as_str())?;
         told.push_str(";")?;
@@ -31,7 +32,7 @@ pub(crate) fn specification_told(
     file: &str,
     told: &mut String,
 ) -> Result<(), AllocError> {
-    match read_claims(alloc, file.as_bytes(), signature) {
+    match read_plain_claims(alloc, file.as_bytes(), signature) {
         Ok(items) => add_labels(&items, told),
         Err(error) => add_error(alloc, &error, told),
     }
@@ -70,15 +71,17 @@ fn a_symbol_whose_hook_is_not_read_is_foreign(rt: HostRuntime) {
     );
 }
 
-/// Claims, or the first fault.
+/// Claims that prove goes by, or the first fault.
 const CLAIMS: &str =
     r#"claim{} \implies{SortS{}}(Lblcount{}(\dv{SortInt{}}("2")), weakAlwaysFinally{SortS{}}(Lbldone{}())) [label{}("T.two")] -> T.two;
 claim{} \implies{SortS{}}(Lblcount{}(\dv{SortInt{}}("2")), weakAlwaysFinally{SortS{}}(Lbldone{}())) [] -> C6
 claim{} \implies{SortS{}}(Lblcount{}(\dv{SortInt{}}("2")), weakAlwaysFinally{SortS{}}(Lbldone{}())) [label{}("a b")] -> C6
 claim{} \implies{SortS{}}(Lblcount{}(\dv{SortInt{}}("2")), weakAlwaysFinally{SortS{}}(Lbldone{}())) [label{}("a"), circularity{}()] -> C2
-claim{} \implies{SortS{}}(Lblcount{}(\dv{SortInt{}}("2")), weakAlwaysFinally{SortS{}}(Lbldone{}())) [depends{}("a"), label{}("b")] -> C2
+claim{} \implies{SortS{}}(Lblcount{}(\dv{SortInt{}}("2")), weakAlwaysFinally{SortS{}}(Lbldone{}())) [depends{}("a"), label{}("b")] -> C4
 claim{} \implies{SortS{}}(Lbldone{}(), weakExistsFinally{SortS{}}(Lbldone{}())) [] -> C1
-claim{} \implies{SortS{}}(Lblcount{}(X:SortInt{}), weakAlwaysFinally{SortS{}}(Lbldone{}())) [] -> C2
+claim{} \implies{SortS{}}(Lblcount{}(X:SortInt{}), weakAlwaysFinally{SortS{}}(Lbldone{}())) [] -> C6
+claim{} \implies{SortS{}}(Lblcount{}(X:SortInt{}), weakAlwaysFinally{SortS{}}(Lbldone{}())) [label{}("a")] -> C2
+claim{} \implies{SortS{}}(Lbldone{}(), weakAlwaysFinally{SortS{}}(Lbldone{}())) [label{}("a")] claim{} \implies{SortS{}}(Lbldone{}(), weakAlwaysFinally{SortS{}}(Lbldone{}())) [depends{}("a"), label{}("b")] -> C2
 claim{} \implies{SortS{}}(Lblcount{}(Lblother{}(\dv{SortInt{}}("2"))), weakAlwaysFinally{SortS{}}(Lbldone{}())) [label{}("a")] -> C9
 claim{} \implies{SortS{}}(Lbldone{}(), weakAlwaysFinally{SortS{}}(\dv{SortInt{}}("2"))) [label{}("a")] -> C9
 claim{} \implies{SortS{}}(Lbldone{}(), weakAlwaysFinally{SortS{}}(Lblcount{}(Lblmul{}(\dv{SortInt{}}("170141183460469231731687303715884105727"), \dv{SortInt{}}("2"))))) [label{}("a")] -> C2

@@ -2,7 +2,7 @@
 use Rattle.std.specs.Prelude.{false, List, [], ◌∷◌, codes}
 use Rattle.kp_kore.specs.Syntax.{Text, KorePattern, application, implication, Statement}
 use Rattle.kp_toys.specs.Toys.{sorts, patterns, sort_s, call, mark, marked, integer}
-use Rattle.kp_claims.specs.Claims.{LabelledClaim}
+use Rattle.kp_claim_sentences.specs.Claims.{StatedClaim}
 
 abbrev pub count_of : KorePattern → KorePattern
 count_of p = call (codes "Lblcount") (p ∷ [])
@@ -27,11 +27,11 @@ from_two = claimed (count_of (integer (codes "2"))) (codes "weakAlwaysFinally") 
 abbrev pub two : Statement
 two = statement from_two (label_two ∷ [])
 
-abbrev pub two_read : LabelledClaim
+abbrev pub two_read : StatedClaim
 two_read = record {
   label = codes "T.two";
   pattern = from_two;
-  claim = record { left = count_of (integer (codes "2")); right = done };
+  claim = record { sort = sort_s; claim = record { left = count_of (integer (codes "2")); right = done } };
   circular = false;
   depends = [];
 }

@@ -11,7 +11,8 @@ use Rattle.kp_kore.specs.Attributes.{text_of}
 use Rattle.kp_io.specs.Outside.{Names}
 use Rattle.kp_kore.specs.Steps.{AnyByRecursion}
 use Rattle.kp_kore.specs.Claims.{Holds}
-use Rattle.kp_claims.specs.Claims.{LabelledClaim, counted, IsClaimOfSentence, if_label, is_label, is_label_character}
+use Rattle.kp_claims.specs.Claims.{counted, if_label, is_label, is_label_character}
+use Rattle.kp_claim_sentences.specs.Claims.{StatedClaim, IsStatedBy}
 use Rattle.kp_report.specs.Report.{ReportLine, IsLine, is_one_line, HasLine, first_line, later_line}
 use Rattle.kp_report.proofs.OneLine.{AreToldInOneLine, IsOfOne, a_line_is_of_a_claim, passed_alone}
 use Rattle.kp_kore.specs.Theory.{Theory}
@@ -56,7 +57,7 @@ label_is_one_line : (found : Option Text) (label : Text) → if_label found ≡ 
 label_is_one_line None label h = absurd (none_is_some h)
 label_is_one_line (Some t) label h = if_it_is (is_label t) t label refl h
 
-claim_label : (sentence : KoreSentence) (claim : LabelledClaim) → IsClaimOfSentence sentence claim → is_one_line claim.label ≡ true
+claim_label : (sentence : KoreSentence) (claim : StatedClaim) → IsStatedBy sentence claim → is_one_line claim.label ≡ true
 claim_label (claim_sentence s) claim is = label_is_one_line (text_of (codes "label") s.attributes) claim.label is.label
 claim_label (import_sentence n as_) claim is = absurd is
 claim_label (sort_sentence d) claim is = absurd is
@@ -70,8 +71,8 @@ spelled_line : (line bytes : List ℕ) → HasLine line bytes → is_one_line li
 spelled_line line _ (first_line after one) = one
 spelled_line line _ (later_line before after one has) = spelled_line line after has
 
-labels_of : (o : Opening) (t : Theory) (depth : ℕ) (sentences : List KoreSentence) (claims : List LabelledClaim) (lines : List ReportLine) →
-    AllZip IsClaimOfSentence sentences claims → AllZip (IsLineFor o t depth) claims lines → AllByRecursion (λ l. is_one_line l.label ≡ true) lines
+labels_of : (o : Opening) (t : Theory) (depth : ℕ) (sentences : List KoreSentence) (claims : List StatedClaim) (lines : List ReportLine) →
+    AllZip IsStatedBy sentences claims → AllZip (IsLineFor o t depth) claims lines → AllByRecursion (λ l. is_one_line l.label ≡ true) lines
 labels_of o t depth sentences claims [] spelled told = tt
 labels_of o t depth [] (c ∷ cs) (l ∷ ls) spelled told = absurd spelled
 labels_of o t depth [] [] (l ∷ ls) spelled told = absurd told
@@ -81,13 +82,13 @@ labels_of o t depth (x ∷ xs) (c ∷ cs) (l ∷ ls) spelled told =
 
 -- a claim of these sentences with this label, that holds
 record Found (t : Theory) (sentences : List KoreSentence) (label : Text) : Type 0 where
-  claim : LabelledClaim
-  is_spelled : AnyByRecursion (λ x. IsClaimOfSentence x claim) sentences
+  claim : StatedClaim
+  is_spelled : AnyByRecursion (λ x. IsStatedBy x claim) sentences
   labelled : claim.label ≡ label
-  holds : Holds t claim.claim
+  holds : Holds t claim.claim.claim
 
-found_here : (o : Opening) (t : Theory) (depth : ℕ) (x : KoreSentence) (xs : List KoreSentence) (c : LabelledClaim) (l : ReportLine) (label : Text) →
-    IsClaimOfSentence x c → IsLineFor o t depth c l → is_one_line (codes "passed " ++ label) ≡ true → is_one_line l.label ≡ true → IsLine l.label l.outcome ((codes "passed " ++ label) ++ 10 ∷ []) → Found t (x ∷ xs) label
+found_here : (o : Opening) (t : Theory) (depth : ℕ) (x : KoreSentence) (xs : List KoreSentence) (c : StatedClaim) (l : ReportLine) (label : Text) →
+    IsStatedBy x c → IsLineFor o t depth c l → is_one_line (codes "passed " ++ label) ≡ true → is_one_line l.label ≡ true → IsLine l.label l.outcome ((codes "passed " ++ label) ++ 10 ∷ []) → Found t (x ∷ xs) label
 found_here o t depth x xs c l label spelled told line own is =
     let alone = passed_alone label l.label l.outcome own line is in
     record { claim = c; is_spelled = inl spelled; labelled = sym told.label ∙ alone.1; holds = told.outcome.holds alone.0 }
@@ -95,8 +96,8 @@ found_here o t depth x xs c l label spelled told line own is =
 one_more : (t : Theory) (x : KoreSentence) (xs : List KoreSentence) (label : Text) → Found t xs label → Found t (x ∷ xs) label
 one_more t x xs label f = record { claim = f.claim; is_spelled = inr f.is_spelled; labelled = f.labelled; holds = f.holds }
 
-found : (o : Opening) (t : Theory) (depth : ℕ) (sentences : List KoreSentence) (claims : List LabelledClaim) (lines : List ReportLine) (label : Text) →
-    AllZip IsClaimOfSentence sentences claims → AllZip (IsLineFor o t depth) claims lines → is_one_line (codes "passed " ++ label) ≡ true →
+found : (o : Opening) (t : Theory) (depth : ℕ) (sentences : List KoreSentence) (claims : List StatedClaim) (lines : List ReportLine) (label : Text) →
+    AllZip IsStatedBy sentences claims → AllZip (IsLineFor o t depth) claims lines → is_one_line (codes "passed " ++ label) ≡ true →
     IsOfOne lines (codes "passed " ++ label) → Found t sentences label
 found o t depth sentences claims [] label spelled told one has = absurd has
 found o t depth [] (c ∷ cs) (l ∷ ls) label spelled told one has = absurd spelled

@@ -6,9 +6,9 @@ use Rattle.kp_graph.specs.Tree.{ProofNode}
 use Rattle.kp_graph.specs.Says.{TreeSays}
 use Rattle.std.specs.Prelude.{◌^◌, Result, Ok, Err, IfOk, OnErr}
 use Rattle.kp_kore.specs.Signature.{KoreSignature}
-use Rattle.kp_claims.specs.Claims.{LabelledClaim, counted}
-use Rattle.kp_claims.specs.Items.{item_view, items_view}
-use Rattle.kp_claims.specs.declared.item.ClaimItem.{ClaimItem}
+use Rattle.kp_claim_sentences.specs.Claims.{StatedClaim}
+use Rattle.kp_claim_sentences.specs.Items.{item_view, items_view}
+use Rattle.kp_claim_sentences.specs.declared.item.FiledClaim.{FiledClaim}
 use Rattle.kp_client.specs.Answers.{IsProved}
 use Rattle.kp_client.specs.Links.{Exchange, LinkState, Makes, Serves}
 use Rattle.kp_report.specs.Report.{IsReport, ReportLine}
@@ -65,7 +65,7 @@ outcome_is o t table depth claim after tree end is small p says holds stuck = re
   stuck = stuck;
 }
 
-pub item_at : (claims : List ClaimItem) (i : ℕ) (x : ClaimItem) (c : LabelledClaim) → x ≡ get_or claims i x → i < length claims → slice_get (map item_view claims) i ≡ Some c → item_view x ≡ c
+pub item_at : (claims : List FiledClaim) (i : ℕ) (x : FiledClaim) (c : StatedClaim) → x ≡ get_or claims i x → i < length claims → slice_get (map item_view claims) i ≡ Some c → item_view x ≡ c
 item_at [] i x c e l s = absurd (omega arith)
 item_at (y ∷ ys) zero x c e l s = let same : item_view y ≡ c = cc s in ap item_view e ∙ same
 item_at (y ∷ ys) (suc i) x c e l s = item_at ys i x c e (omega arith) s
@@ -111,7 +111,7 @@ map_length f (x ∷ xs) = ap suc (map_length f xs)
 
 -- ---- the report
 
-pub reported_as : (o : Opening) (t : Theory) (depth : ℕ) (claims : List LabelledClaim) (Gains : List ℕ → Type 0) (status : ℕ) (lines : List ReportLine) (report : List ℕ) →
+pub reported_as : (o : Opening) (t : Theory) (depth : ℕ) (claims : List StatedClaim) (Gains : List ℕ → Type 0) (status : ℕ) (lines : List ReportLine) (report : List ℕ) →
     AllZip (IsLineFor o t depth) claims lines → IsReport lines report → status ≡ proof_status lines → Gains report → AreReported o t depth claims Gains status
 reported_as o t depth claims Gains status lines report each is told gains = record {
   lines = lines;
@@ -122,7 +122,7 @@ reported_as o t depth claims Gains status lines report each is told gains = reco
   status_is = told;
 }
 
-pub proved_as : (names : Option Names) (Gains : List ℕ → Type 0) (c : ProveWords) (status : ℕ) (l : IsLoaded names c.definition c.main) (items : List ClaimItem) → AreClaimsAt names c.claims l.setting.theory.signature items →
+pub proved_as : (names : Option Names) (Gains : List ℕ → Type 0) (c : ProveWords) (status : ℕ) (l : IsLoaded names c.definition c.main) (items : List FiledClaim) → AreClaimsAt names c.claims l.setting.theory.signature items →
     AreReported (opening_of l.definition c.main) l.setting.theory c.depth (map item_view items) Gains status → Proved names Gains c status
 proved_as names Gains c status l items at reported = record {
   loaded = l;
@@ -137,25 +137,25 @@ proved_as names Gains c status l items at reported = record {
   reported = reported;
 }
 
-ground_at : (names : Option Names) (name : List ℕ) (g : KoreSignature) (items : List ClaimItem) → AreClaimsAt names name g items → AllByRecursion IsGroundClaim (items_view items)
-ground_at names name g items at = ground_claims g [] (counted at.claims_in.modules) (items_view items) at.claims_in.faultless at.claims_in.are
+ground_at : (names : Option Names) (name : List ℕ) (g : KoreSignature) (items : List FiledClaim) → AreClaimsAt names name g items → AllByRecursion IsGroundClaim (items_view items)
+ground_at names name g items at = ground_claims g (items_view items) at.claims_in.plain
 
 -- what is reported of the claims, as they are read, is reported of the file
-reported_on : (o : Opening) (t : Theory) (depth : ℕ) (items read : List ClaimItem) (Gains : List ℕ → Type 0) (status : ℕ) → read ≡ items → AreReported o t depth (items_view read) Gains status → AreReported o t depth (items_view items) Gains status
-reported_on o t depth items read Gains status same reported = subst (λ (l : List ClaimItem). AreReported o t depth (items_view l) Gains status) same reported
+reported_on : (o : Opening) (t : Theory) (depth : ℕ) (items read : List FiledClaim) (Gains : List ℕ → Type 0) (status : ℕ) → read ≡ items → AreReported o t depth (items_view read) Gains status → AreReported o t depth (items_view items) Gains status
+reported_on o t depth items read Gains status same reported = subst (λ (l : List FiledClaim). AreReported o t depth (items_view l) Gains status) same reported
 
-pub proved_ok : (names : Option Names) (Gains : List ℕ → Type 0) (c : ProveWords) (l : IsLoaded names c.definition c.main) (items read : List ClaimItem) (r : Result ℕ Trouble) → read ≡ items → AreClaimsAt names c.claims l.setting.theory.signature items →
+pub proved_ok : (names : Option Names) (Gains : List ℕ → Type 0) (c : ProveWords) (l : IsLoaded names c.definition c.main) (items read : List FiledClaim) (r : Result ℕ Trouble) → read ≡ items → AreClaimsAt names c.claims l.setting.theory.signature items →
     (AllByRecursion IsGroundClaim (items_view read) → IfOk r (AreReported (opening_of l.definition c.main) l.setting.theory c.depth (items_view read) Gains)) → IfOk r (Proved names Gains c)
 proved_ok names Gains c l items read (Ok status) same at reported =
-    let ground = subst (λ (x : List ClaimItem). AllByRecursion IsGroundClaim (items_view x)) (sym same) (ground_at names c.claims l.setting.theory.signature items at) in
+    let ground = subst (λ (x : List FiledClaim). AllByRecursion IsGroundClaim (items_view x)) (sym same) (ground_at names c.claims l.setting.theory.signature items at) in
     proved_as names Gains c status l items at (reported_on (opening_of l.definition c.main) l.setting.theory c.depth items read Gains status same (reported ground))
 proved_ok names Gains c l items read (Err t) same at reported = tt
 
-pub proved_front : (names : Option Names) (Same : Type 0) (Gains : List ℕ → Type 0) (c : ProveWords) (l : IsLoaded names c.definition c.main) (items read : List ClaimItem) (r : Result ℕ Trouble) → read ≡ items → AreClaimsAt names c.claims l.setting.theory.signature items →
+pub proved_front : (names : Option Names) (Same : Type 0) (Gains : List ℕ → Type 0) (c : ProveWords) (l : IsLoaded names c.definition c.main) (items read : List FiledClaim) (r : Result ℕ Trouble) → read ≡ items → AreClaimsAt names c.claims l.setting.theory.signature items →
     (AllByRecursion IsGroundClaim (items_view read) → OnErr r (Same ⊎ ((status : ℕ) × AreReported (opening_of l.definition c.main) l.setting.theory c.depth (items_view read) Gains status))) → OnErr r (Same ⊎ ((status : ℕ) × Proved names Gains c status))
 proved_front names Same Gains c l items read (Ok status) same at reported = tt
 proved_front names Same Gains c l items read (Err t) same at reported =
-    let ground = subst (λ (x : List ClaimItem). AllByRecursion IsGroundClaim (items_view x)) (sym same) (ground_at names c.claims l.setting.theory.signature items at) in
+    let ground = subst (λ (x : List FiledClaim). AllByRecursion IsGroundClaim (items_view x)) (sym same) (ground_at names c.claims l.setting.theory.signature items at) in
     either (reported ground)
   where
     either : Same ⊎ ((status : ℕ) × AreReported (opening_of l.definition c.main) l.setting.theory c.depth (items_view read) Gains status) → Same ⊎ ((status : ℕ) × Proved names Gains c status)

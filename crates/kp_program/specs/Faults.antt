@@ -11,6 +11,7 @@ use Rattle.kp_imports.specs.Faults.{Fault, IsFirstFault}
 use Rattle.kp_claims.specs.Claims.{counted}
 use Rattle.kp_claims.specs.Faults as claims
 use Rattle.kp_claims.specs.Files.{IsFileText, SpellsFile}
+use Rattle.kp_claim_files.specs.Ground.{IsFaultForProve}
 
 -- it is longer than a file may be; its text has a fault; the modules that the text spells have one; the claims have one
 pub data FileFault : Type 0 where
@@ -30,12 +31,12 @@ IsFileFault file main (in_claims f) = ⊥
 abbrev pub IsFaultless : List ℕ → Text → Type 0
 IsFaultless file main = (f : FileFault) → ¬ IsFileFault file main f
 
--- the first fault of a claims' file over a signature
+-- the first fault of a claims' file over a signature, or that prove doesn't go by one of its claims
 abbrev pub IsClaimsFault : KoreSignature → List ℕ → FileFault → Type 0
 IsClaimsFault g file too_long = load_limit < length file
 IsClaimsFault g file (in_text f) = (length file ≤ load_limit) × IsFaultOf IsFileText file f
 IsClaimsFault g file (in_modules f) = ⊥
-IsClaimsFault g file (in_claims f) = (length file ≤ load_limit) × (ms : List KoreModule) × SpellsFile file ms × claims.IsFirstFault g (counted ms) f
+IsClaimsFault g file (in_claims f) = (length file ≤ load_limit) × (ms : List KoreModule) × SpellsFile file ms × IsFaultForProve g (counted ms) f
 
 -- it has none
 abbrev pub AreFaultlessClaims : KoreSignature → List ℕ → Type 0

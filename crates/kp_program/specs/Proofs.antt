@@ -15,9 +15,10 @@ use Rattle.kp_service.specs.Answers.{IsAnswer}
 use Rattle.kp_kore.specs.Claims.{ReachabilityClaim, Holds}
 use Rattle.kp_graph.specs.Tree.{ProofNode}
 use Rattle.kp_graph.specs.Says.{TreeSays}
-use Rattle.kp_claims.specs.Claims.{LabelledClaim, counted, IsClaimOfSentence}
-use Rattle.kp_claims.specs.Faults.{AreFaultless}
+use Rattle.kp_claims.specs.Claims.{counted}
 use Rattle.kp_claims.specs.Files.{SpellsFile}
+use Rattle.kp_claim_sentences.specs.Claims.{StatedClaim, IsStatedBy}
+use Rattle.kp_claim_sentences.specs.Faults.{IsFaultlessFile}
 use Rattle.kp_client.specs.Links.{Exchange, ToldTheory}
 use Rattle.kp_report.specs.Report.{ReportLine, IsReport}
 use Rattle.kp_client.specs.Rounds.{Proves, ProofOutcome, passed, failed_at, pending_at, refused_with}
@@ -69,9 +70,9 @@ pub record IsOutcome (o : Opening) (t : Theory) (depth : ℕ) (claim : Reachabil
   pub stuck : (n : ℕ) → outcome ≡ failed_at n → IsStuckAt t claim tree n
 
 -- the line tells the label of the claim, and how its proof ended
-pub record IsLineFor (o : Opening) (t : Theory) (depth : ℕ) (claim : LabelledClaim) (line : ReportLine) : Type 0 where
+pub record IsLineFor (o : Opening) (t : Theory) (depth : ℕ) (claim : StatedClaim) (line : ReportLine) : Type 0 where
   pub label : line.label ≡ claim.label
-  pub outcome : IsOutcome o t depth claim.claim line.outcome
+  pub outcome : IsOutcome o t depth claim.claim.claim line.outcome
 
 -- ---- the status
 
@@ -97,7 +98,7 @@ proof_status lines =
 -- ---- the report
 
 -- the claims, in order, were proved, by edges of at most so many steps, with this status and a report of which this holds
-pub record AreReported (o : Opening) (t : Theory) (depth : ℕ) (claims : List LabelledClaim) (Gains : List ℕ → Type 0) (status : ℕ) : Type 0 where
+pub record AreReported (o : Opening) (t : Theory) (depth : ℕ) (claims : List StatedClaim) (Gains : List ℕ → Type 0) (status : ℕ) : Type 0 where
   pub lines : List ReportLine
   pub one_each : AllZip (IsLineFor o t depth) claims lines
   pub report : List ℕ
@@ -114,9 +115,9 @@ pub record Proved (names : Option Names) (Gains : List ℕ → Type 0) (c : Prov
   pub fits : length file ≤ load_limit
   pub modules : List KoreModule
   pub spells : SpellsFile file modules
-  pub faultless : AreFaultless loaded.setting.theory.signature [] (counted modules)
-  pub claims : List LabelledClaim
-  pub are_claims : AllZip IsClaimOfSentence (counted modules) claims
+  pub faultless : IsFaultlessFile loaded.setting.theory.signature (counted modules)
+  pub claims : List StatedClaim
+  pub are_claims : AllZip IsStatedBy (counted modules) claims
   pub reported : AreReported (opening_of loaded.definition c.main) loaded.setting.theory c.depth claims Gains status
 
 -- the same for the command that the words spell

@@ -6,8 +6,8 @@ ghost use Rattle.kp_kore.specs.Theory.{Theory};
 ghost use Rattle.kp_book.specs.Books.{Opening};
 ghost use Rattle.kp_modules.specs.Openings.{IsTableOf, opening_of};
 ghost use Rattle.kp_io.specs.Outside.{Rose};
-ghost use Rattle.kp_claims.specs.Claims.{LabelledClaim};
-ghost use Rattle.kp_claims.specs.Items.{items_view};
+ghost use Rattle.kp_claim_sentences.specs.Claims.{StatedClaim};
+ghost use Rattle.kp_claim_sentences.specs.Items.{items_view};
 ghost use Rattle.kp_report.specs.Report.{IsReport};
 ghost use Rattle.kp_client.specs.View.{outcome_view};
 ghost use Rattle.kp_report.specs.View.{line_view};
@@ -29,7 +29,7 @@ use crate::definition::load_table;
 use crate::local::LocalLink;
 use crate::output::put_line;
 use crate::trouble::Trouble;
-use kp_claims::ClaimItem;
+use kp_claim_sentences::FiledClaim;
 use kp_client::{ProofEnd, ProveOptions, prove};
 use kp_io::{Shelf, Sink};
 use kp_modules::ModuleTable;
@@ -94,7 +94,7 @@ fn report_claims<R: Wait, O: Sink>(
     rt: &R,
     alloc: Global,
     table: ModuleTable,
-    claims: &[ClaimItem],
+    claims: &[FiledClaim],
     max_depth: u64,
     out: &mut O,
 ) -> Result<u8, Trouble>
@@ -117,7 +117,7 @@ fn lines_over<R: Wait>(
     rt: &R,
     alloc: Global,
     table: ModuleTable,
-    claims: &[ClaimItem],
+    claims: &[FiledClaim],
     max_depth: u64,
 ) -> Result<Vec<Line>, AllocError>
     ensures { (o : Opening) (t : Theory) → let claims' = items_view claims.now in IsTheoryOver table o t → AreGround claims' → IfOk result (λ lines. AllZip (IsLineFor o t max_depth) claims' (map line_view lines.items)) }
@@ -131,7 +131,7 @@ fn lines_over<R: Wait>(
 fn prove_all<R: Wait>(
     alloc: Global,
     link: &mut LocalLink<'_, R>,
-    claims: &[ClaimItem],
+    claims: &[FiledClaim],
     max_depth: u64,
 ) -> Result<Vec<Line>, AllocError>
     ensures { (o : Opening) (t : Theory) → let claims' = items_view claims.now in IsLinkOver link.old o t → AreGround claims' → IfOk result (λ lines. AllZip (IsLineFor o t max_depth) claims' (map line_view lines.items)) }
@@ -148,12 +148,12 @@ fn prove_all<R: Wait>(
 fn prove_at<R: Wait>(
     alloc: Global,
     link: &mut LocalLink<'_, R>,
-    claims: &[ClaimItem],
+    claims: &[FiledClaim],
     place: usize,
     max_depth: u64,
 ) -> Result<Line, AllocError>
     requires place { place < length claims.now }
-    ensures line { (o : Opening) (t : Theory) (c : LabelledClaim) → let claims' = items_view claims.now in IsLinkOver link.old o t → slice_get claims' place ≡ Some c → IsGroundClaim c → IfOk result (λ line. IsLineFor o t max_depth c (line_view line)) }
+    ensures line { (o : Opening) (t : Theory) (c : StatedClaim) → let claims' = items_view claims.now in IsLinkOver link.old o t → slice_get claims' place ≡ Some c → IsGroundClaim c → IfOk result (λ line. IsLineFor o t max_depth c (line_view line)) }
     ensures link { (o : Opening) (t : Theory) → IsLinkOver link.old o t → OnOk result (IsLinkOver link.new o t) }
 {
     let label = claims[place].label.clone()?;

@@ -1,7 +1,7 @@
 ghost use Rattle.std.specs.Prelude.{◌≡◌, ◌≤◌, ◌++◌, codes, ℕ, IfErr, IfOk, List, length, string_bytes};
 ghost use Rattle.std.specs.Fmt.{decimal};
 ghost use Rattle.kp_io.specs.Outside.{Rose, load_limit};
-ghost use Rattle.kp_claims.specs.Faults.{IsErrorOf as AreErrorOf};
+ghost use Rattle.kp_claim_files.specs.Ground.{IsErrorForProve};
 ghost use Rattle.kp_kore.specs.Signature.{KoreSignature};
 ghost use Rattle.kp_kore.specs.Syntax.{KoreDefinition};
 ghost use Rattle.kp_imports.specs.Faults.{TellsFirst};
@@ -163,7 +163,7 @@ pub fn module_trouble(alloc: Global, name: &str, error: LoadError) -> Trouble
 
 /// Why no claims were read of a file.
 pub fn claim_trouble(alloc: Global, name: &str, error: ClaimError) -> Trouble
-    ensures { (g : KoreSignature) (file : List ℕ) → length file ≤ load_limit → AreErrorOf g file error → AreFaulty g file name.now result }
+    ensures { (g : KoreSignature) (file : List ℕ) → length file ≤ load_limit → IsErrorForProve g file error → AreFaulty g file name.now result }
 {
     match error {
         ClaimError::Memory => Trouble::Memory,

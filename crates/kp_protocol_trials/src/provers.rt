@@ -1,8 +1,8 @@
 use crate::table::{Subject, bytes, each_is_told, is_told, text};
-use kp_claims::ClaimItem;
+use kp_claim_sentences::FiledClaim;
 use kp_client::{ProofEnd, ProveOptions, ScriptLink, prove, prove_claim};
 use kp_graph::{NodeId, Tree, Why};
-use kp_kore::{Claim, Pattern};
+use kp_kore::{Claim, Pattern, Sort};
 use kp_report::{Line, report_text};
 use std::alloc::Global;
 use std::process::Abort;
@@ -177,9 +177,13 @@ fn proofs_end_as_they_are_told(rt: HostRuntime) {
 }
 
 /// A claim of a list, from a state to itself.
-fn item(rt: &impl Abort, alloc: Global, name: &str) -> ClaimItem {
-    ClaimItem {
+fn item(rt: &impl Abort, alloc: Global, name: &str) -> FiledClaim {
+    FiledClaim {
         label: text(rt, alloc, name),
+        sort: Sort::App {
+            name: text(rt, alloc, "SortS"),
+            arguments: Vec::new(alloc),
+        },
         pattern: state(rt, alloc, name),
         claim: claim(rt, alloc, name, name),
         circular: false,

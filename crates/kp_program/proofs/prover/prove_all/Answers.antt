@@ -1,6 +1,6 @@
 use Rattle.std.proofs.Common.{◌≡◌, ◌≤◌, arith, subst, sym, rules, take, ◌+◌, List, [], length, map}
 use Rattle.std.specs.List.{AllZip}
-use Rattle.kp_claims.specs.Items.{item_view, items_view}
+use Rattle.kp_claim_sentences.specs.Items.{item_view, items_view}
 use Rattle.kp_report.specs.View.{line_view}
 use Rattle.kp_report.specs.declared.report.Line.{Line}
 use Rattle.kp_program.specs.Proofs.{IsLineFor}

@@ -1,6 +1,6 @@
 use Rattle.std.proofs.Common.{map, take}
 use Rattle.std.specs.List.{AllByRecursion, AllZip}
-use Rattle.kp_claims.specs.Items.{items_view}
+use Rattle.kp_claim_sentences.specs.Items.{items_view}
 use Rattle.kp_report.specs.View.{line_view}
 use Rattle.kp_program.specs.ClaimFiles.{IsGroundClaim}
 use Rattle.kp_kore.specs.Theory.{Theory}

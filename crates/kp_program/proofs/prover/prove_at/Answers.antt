@@ -1,6 +1,5 @@
 use Rattle.std.proofs.Common.{◌≡◌, ◌∙◌, ◌<◌, ◌^◌, ap, arith, rules, string_bytes}
-use Rattle.kp_claims.specs.Items.{item_view}
-use Rattle.kp_claims.specs.Claims.{LabelledClaim}
+use Rattle.kp_claim_sentences.specs.Claims.{StatedClaim}
 use Rattle.kp_graph.specs.TreeView.{tree_view}
 use Rattle.kp_client.specs.View.{outcome_view}
 use Rattle.kp_program.specs.Proofs.{told_theory}
@@ -15,8 +14,8 @@ returns-in-Ok-clause-line g c = λ o t x here at ground.
     let copied : string_bytes c.in_ok-label.label ≡ string_bytes c.index-claims-place.result.label = search rules in
     let small : c.args.max_depth < 2 ^ 64 = omega arith in
     record {
-      label = copied ∙ ap (λ (i : LabelledClaim). i.label) (item_at c.args.claims.now c.args.place c.index-claims-place.result x c.index-claims-place.is c.requires.place at);
-      outcome = outcome_is o t table c.args.max_depth x.claim _ (tree_view c.in-Ok._tree) (outcome_view c.in-Ok.outcome) here small
+      label = copied ∙ ap (λ (i : StatedClaim). i.label) (item_at c.args.claims.now c.args.place c.index-claims-place.result x c.index-claims-place.is c.requires.place at);
+      outcome = outcome_is o t table c.args.max_depth x.claim.claim _ (tree_view c.in-Ok._tree) (outcome_view c.in-Ok.outcome) here small
           (c.in-Ok.ensures.proved x at)
           (c.in-Ok.ensures.says x told at serves ground.right)
           (c.in-Ok.ensures.holds x told at serves ground)

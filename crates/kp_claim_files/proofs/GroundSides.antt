@@ -1,4 +1,4 @@
--- Sides that verify in the claim without its word on paths verify by themselves, with its sort.
+-- Ground sides that verify in the claim without its word on paths verify by themselves, with its sort.
 use Rattle.std.proofs.Common.{◌≡◌, refl, sym, ap, subst, ◌∙◌, ℕ, Bool, true, false, ◌&&◌, List, [], ◌∷◌, ◌++◌, Option, Some, None}
 use Rattle.std.specs.List.{filter_map}
 use Rattle.std.proofs.lemmas.List.Elements.{filter_map-append}
@@ -11,9 +11,9 @@ use Rattle.kp_signature.specs.Places.{Place, the_top, part_at, argument_at, afte
 use Rattle.kp_signature.specs.Verify.{VerifyFault, sort_differs, fault_unless, sort_fault, symbol_fault, difference, variable_fault, injection_fault, literal_fault, width_fault, depth_fault, first_of, fault_at, first_fault, arguments_fault, VerifiesAs}
 use Rattle.kp_signature.proofs.OwnSorts.{has_a_sort}
 use Rattle.kp_compile.specs.Spelled.{first_foreign, first_member, foreign_name}
-use Rattle.kp_claims.specs.Claims.{ClaimSides, has_none, is_ground}
+use Rattle.kp_claims.specs.Claims.{ClaimSides}
 use Rattle.kp_claims.specs.Faults.{bare_claim}
-use Rattle.kp_claims.specs.Sides.{HasMeaning}
+use Rattle.kp_claim_files.specs.Ground.{has_none, is_ground, IsGroundAt}
 
 -- ---- the first of several
 
@@ -130,18 +130,21 @@ known_in_both g s p q h = no_first (filter_map (foreign_name g) (subpatterns p))
 
 -- ---- the sides
 
-pub sides_have_meaning : (g : KoreSignature) (c : ClaimSides) → is_ground c.left ≡ true → is_ground c.right ≡ true → first_fault g the_top (bare_claim c) ≡ None → first_foreign g (bare_claim c) ≡ None → HasMeaning g c
-sides_have_meaning g c l r h f =
+pub left_is_ground : (g : KoreSignature) (c : ClaimSides) → first_fault g the_top (bare_claim c) ≡ None → first_foreign g (bare_claim c) ≡ None → is_ground c.left ≡ true → IsGroundAt g c.sort c.left
+left_is_ground g c h f l =
     let node = fault_at g the_top (bare_claim c) in
     let left_place = part_at the_top c.sort in
-    let right_place = after c.left left_place in
     let on_left = first_fault g left_place c.left in
-    let on_right = first_fault g right_place c.right in
-    let both = nothing_later node (earlier on_left (earlier on_right None)) h in
-    let left_none : first_fault g (a_part c.sort) c.left ≡ None = nothing_earlier on_left (earlier on_right None) both in
-    let right_there : on_right ≡ None = nothing_earlier on_right None (nothing_later on_left (earlier on_right None) both) in
+    let on_right = first_fault g (after c.left left_place) c.right in
+    let left_none : first_fault g (a_part c.sort) c.left ≡ None = nothing_earlier on_left (earlier on_right None) (nothing_later node (earlier on_left (earlier on_right None)) h) in
+    record { ground = l; verified = verifies g c.sort c.left (ground_is_term c.left l) left_none; known = (known_in_both g c.sort c.left c.right f).0 }
+
+pub right_is_ground : (g : KoreSignature) (c : ClaimSides) → first_fault g the_top (bare_claim c) ≡ None → first_foreign g (bare_claim c) ≡ None → is_ground c.left ≡ true → is_ground c.right ≡ true → IsGroundAt g c.sort c.right
+right_is_ground g c h f l r =
+    let node = fault_at g the_top (bare_claim c) in
+    let left_place = part_at the_top c.sort in
+    let on_left = first_fault g left_place c.left in
+    let on_right = first_fault g (after c.left left_place) c.right in
+    let right_there : on_right ≡ None = nothing_earlier on_right None (nothing_later on_left (earlier on_right None) (nothing_later node (earlier on_left (earlier on_right None)) h)) in
     let right_none : first_fault g (a_part c.sort) c.right ≡ None = subst (λ vs. first_fault g (record { wanted = Some c.sort; depth = 1; scope = vs }) c.right ≡ None) (ground_is_closed c.left l) right_there in
-    let known = known_in_both g c.sort c.left c.right f in (
-      record { ground = l; verified = verifies g c.sort c.left (ground_is_term c.left l) left_none; known = known.0 },
-      record { ground = r; verified = verifies g c.sort c.right (ground_is_term c.right r) right_none; known = known.1 },
-    )
+    record { ground = r; verified = verifies g c.sort c.right (ground_is_term c.right r) right_none; known = (known_in_both g c.sort c.left c.right f).1 }
