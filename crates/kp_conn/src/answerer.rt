@@ -8,8 +8,8 @@ use std::sync::Wait;
 /// What answers the frames of connections. Each caller has a pass of its own, which has seen the book of modules up to
 /// some entry; what it has seen is told over an opening, since modules keep their rules and not their axioms.
 pub trait Answerer {
-    /// What one caller has.
-    type Pass;
+    /// What one caller has; it may go to another thread.
+    type Pass: Send;
 
     /// Over an opening of this answerer the pass has seen this book, and these entries of it are its own.
     ghost has_seen: { Self → Self.Pass → Opening → Seen → Type 0 };

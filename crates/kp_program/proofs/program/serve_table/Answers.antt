@@ -1,7 +1,12 @@
+use denote.Param.Send.{sendable}
 use Rattle.std.proofs.Common.{inr}
 use Rattle.std.proofs.lemmas.Result.{IfErr-weaker, on_err_weaker, on_ok_weaker}
+use Rattle.kp_registry.proofs.Crossing.{pass_send}
 use Rattle.kp_program.proofs.Served.{breaks_off, late_end, serves_input}
 use Rattle.kp_program.proofs.program.serve_table.Goals as goal
+
+pub serve-requires-send-A-Pass : goal.serve-requires-send-A-Pass
+serve-requires-send-A-Pass g c = search (pass_send, sendable) depth 20
 
 pub returns-clause-served : goal.returns-clause-served
 returns-clause-served g c = λ o is.
