@@ -79,7 +79,13 @@ const HEADS: &str = r##"\exists{S{}}(X:Int{}, \equals{S{},S{}}(Z:S{}, f{}(X:Int{
 \exists{S{}}(X:Int{}, \exists{S{}}(Y:S{}, \equals{S{},S{}}(Y:S{}, pair{}(X:Int{}, Y:S{})))) -> [+q]
 \exists{S{}}(X:Int{}, \exists{S{}}(Y:S{}, \equals{S{},S{}}(Z:S{}, f{}(X:Int{})))) -> [+q]
 \exists{S{}}(X:Int{}, \equals{S{},S{}}(g{}(Z:S{}), f{}(X:Int{}))) -> [+q]
-\not{S{}}(\exists{S{}}(X:Int{}, \equals{Int{},S{}}(Y:Int{}, X:Int{}))) -> [-q]"##;
+\not{S{}}(\exists{S{}}(X:Int{}, \equals{Int{},S{}}(Y:Int{}, X:Int{}))) -> []
+# by the other side, by \in, by \forall of the opposite
+\exists{S{}}(X:Int{}, \equals{S{},S{}}(f{}(X:Int{}), Z:S{})) -> [+h]
+\not{S{}}(\exists{S{}}(X:Int{}, \in{S{},S{}}(f{}(X:Int{}), Z:S{}))) -> [-h]
+\not{S{}}(\forall{S{}}(X:Int{}, \not{S{}}(\equals{S{},S{}}(Z:S{}, f{}(X:Int{}))))) -> [+h]
+\forall{S{}}(X:Int{}, \forall{S{}}(Y:S{}, \not{S{}}(\equals{S{},S{}}(pair{}(X:Int{}, Y:S{}), Z:S{})))) -> [-h]
+\forall{S{}}(X:Int{}, \equals{S{},S{}}(Z:S{}, f{}(X:Int{}))) -> [+q]"##;
 
 /// A clause and a literal stand once.
 const ONCE: &str =

@@ -108,10 +108,10 @@ static ROWS: [(&str, &str); 29] = [
         r#"\and{SortS{}}(Lblnum{}(Q:SortE{}),\not{SortS{}}(\exists{SortS{}}(N:SortInt{},\equals{SortE{},SortS{}}(Q:SortE{},inj{SortInt{},SortE{}}(N:SortInt{})))))"#,
         r#"\and{SortS{}}(Lblnum{}(Q:SortE{}),\not{SortS{}}(\exists{SortS{}}(Fresh1:SortInt{},\equals{SortE{},SortS{}}(Q:SortE{},inj{SortInt{},SortE{}}(Fresh1:SortInt{})))))"#,
     ),
-    // with the variable behind it isn't opened
+    // the same, by the other side
     (
         r#"\and{SortS{}}(Lblnum{}(Q:SortE{}),\not{SortS{}}(\exists{SortS{}}(N:SortInt{},\equals{SortE{},SortS{}}(inj{SortInt{},SortE{}}(N:SortInt{}),Q:SortE{}))))"#,
-        r#"\and{SortS{}}(Lblnum{}(Q:SortE{}),\not{SortS{}}(\exists{SortS{}}(N:SortInt{},\equals{SortE{},SortS{}}(inj{SortInt{},SortE{}}(N:SortInt{}),Q:SortE{}))))"#,
+        r#"\and{SortS{}}(Lblnum{}(Q:SortE{}),\not{SortS{}}(\exists{SortS{}}(Fresh1:SortInt{},\equals{SortE{},SortS{}}(Q:SortE{},inj{SortInt{},SortE{}}(Fresh1:SortInt{})))))"#,
     ),
     // what isn't opened further
     (
