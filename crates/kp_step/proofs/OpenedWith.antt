@@ -6,7 +6,7 @@ use Rattle.std.specs.List.{AllByRecursion, Contains, filter, flat_map}
 use Rattle.std.specs.Str.{bytes_eq}
 use Rattle.std.proofs.lemmas.List.{append_assoc}
 use Rattle.std.proofs.lemmas.Slice.Eq.{bytes_eq-Decides}
-use Rattle.kp_kore.specs.Syntax.{KoreSort, KorePattern, KorePatterns, variable, application, literal, negation, conjunction, exists, ceil, equals, membership, no_patterns, next_pattern}
+use Rattle.kp_kore.specs.Syntax.{KoreSort, KorePattern, KorePatterns, variable, application, literal, negation, conjunction, exists, forall, ceil, equals, membership, no_patterns, next_pattern}
 use Rattle.kp_kore.specs.Parts.{SortedName, is_term, free_variables, all_free_variables}
 use Rattle.kp_kore.specs.Signature.{KoreSignature}
 use Rattle.kp_kore.specs.Instance.{is_named, is_predicate, are_predicates, is_conjoined_pair}
@@ -21,7 +21,7 @@ use Rattle.kp_symbolic.specs.States.{variables_for, Literal}
 use Rattle.kp_symbolic.specs.WellFormed.{IsWellSorted, AreWellPlaced, AreAtHand}
 use Rattle.kp_symbolic.specs.Alike.{literals_same}
 use Rattle.kp_symbolic.specs.Folding.{term_for, folded}
-use Rattle.kp_symbolic.specs.Opening.{fixed, literal_fact, HeadQuestion, head_question, opened_same, opened_test, quotation, opened_ceil, opened_leaf, opened_predicate}
+use Rattle.kp_symbolic.specs.Opening.{fixed, literal_fact, HeadQuestion, head_question, denied_question, opened_same, opened_test, quotation, opened_ceil, opened_leaf, opened_predicate}
 use Rattle.kp_symbolic.specs.Clauses.{distributed, without_repeats, is_too_large, quoted_literal, clauses_of_conjunct, literals_of_conjunct, clauses_of_conjuncts}
 use Rattle.kp_symbolic.proofs.Distribution.{all_both, all_first, all_second, kept_are}
 use Rattle.kp_symbolic.proofs.Opened.{IsClosed}
@@ -29,8 +29,8 @@ use Rattle.kp_symbolic.proofs.Folded.{folded_variables}
 use Rattle.kp_symbolic.proofs.SortedFolding.{folded_sorted}
 use Rattle.kp_symbolic.proofs.Read.{Stands, StandAll, StandBoth, equals_stand, membership_stands, negation_stands, conjunction_stands, disjunction_stands, implication_stands, equivalence_stands, ceil_stands, floor_stands, first_stands, others_stand, three_tests, two_tests}
 use Rattle.kp_symbolic.proofs.Facts.{AllFacts, AllIn, clauses_have, Good, GoodTerm, opened_same_good}
-use Rattle.kp_symbolic.proofs.Leaf.{filtered_for, named_here, asked_formula}
-use Rattle.kp_symbolic.proofs.HeadQuestions.{all_weaker}
+use Rattle.kp_symbolic.proofs.Leaf.{filtered_for, named_here, asked_formula, denied_formula}
+use Rattle.kp_symbolic.proofs.HeadQuestions.{all_weaker, denied_body, denied_asks, denied_variables}
 use Rattle.kp_symbolic_laws.specs.Safe.{PutNormal, Formed, IsSoundQuote}
 use Rattle.kp_symbolic_laws.proofs.FormedFacts.{same_formed, test_formed}
 use Rattle.kp_symbolic_laws.proofs.Keeping.{test_good}
@@ -198,15 +198,21 @@ quotation_has g rs hand b p n h =
 
 -- ---- tests of heads
 
+asked_has : (g : KoreSignature) (rs : List Replaced) (hand : List SortedName) (c b : Bool) (p r : KorePattern) (q : HeadQuestion) → head_question g [] r ≡ Some q → AllByRecursion (Each rs hand) (free_variables r) → Right g hand (record { holds = b; atom = quotation rs p }) → AllFacts (Right g hand) (opened_test g c q.test (literal_fact b (quotation rs p)) (folded g rs q.subject))
+asked_has g rs hand c b p r q e a kept =
+    let f = opened_test g c q.test (literal_fact b (quotation rs p)) (folded g rs q.subject) in
+    both_facts (Good g hand) (Sound g) f
+    (test_good g hand c q.test (literal_fact b (quotation rs p)) (folded g rs q.subject) kept.0
+    (folded_variables g rs (At hand) q.subject (subject_has g (Each rs hand) [] r q e (all_weaker (Each rs hand) (λ z. false ≡ false → Each rs hand z) (free_variables r) (λ z k n. k) a))))
+    (test_formed g (IsSoundQuote g) c q.test (literal_fact b (quotation rs p)) (folded g rs q.subject) (question_meant g [] r q e) kept.1)
+
 question_has : (g : KoreSignature) (rs : List Replaced) (hand : List SortedName) (b : Bool) (p : KorePattern) (o : Option HeadQuestion) → PutNormal g rs → head_question g [] p ≡ o → IsAmong g rs hand p → AllFacts (Right g hand) (asked_formula g rs b p o)
 question_has g rs hand b p None n e h = quotation_has g rs hand b p n h
-question_has g rs hand b p (Some q) n e h =
-    let kept = quotation_has g rs hand b p n h in
-    let f = opened_test g b q.test (literal_fact b (quotation rs p)) (folded g rs q.subject) in
-    both_facts (Good g hand) (Sound g) f
-    (test_good g hand b q.test (literal_fact b (quotation rs p)) (folded g rs q.subject) kept.0
-    (folded_variables g rs (At hand) q.subject (subject_has g (Each rs hand) [] p q e (all_weaker (Each rs hand) (λ z. false ≡ false → Each rs hand z) (free_variables p) (λ z c n. c) h.at_hand))))
-    (test_formed g (IsSoundQuote g) b q.test (literal_fact b (quotation rs p)) (folded g rs q.subject) (question_meant g [] p q e) kept.1)
+question_has g rs hand b p (Some q) n e h = asked_has g rs hand b b p p q e h.at_hand (quotation_has g rs hand b p n h)
+
+denied_has : (g : KoreSignature) (rs : List Replaced) (hand : List SortedName) (b : Bool) (p : KorePattern) (o : Option HeadQuestion) → PutNormal g rs → denied_question g [] p ≡ o → IsAmong g rs hand p → AllFacts (Right g hand) (denied_formula g rs b p o)
+denied_has g rs hand b p None n e h = quotation_has g rs hand b p n h
+denied_has g rs hand b p (Some q) n e h = asked_has g rs hand (not b) b p (denied_body p) q (denied_asks g [] p q e) (subst (AllByRecursion (Each rs hand)) (sym (denied_variables p)) h.at_hand) (quotation_has g rs hand b p n h)
 
 -- ---- the leaf
 
@@ -215,6 +221,7 @@ leaf_has g rs hand n alone b (equals a s p q) l h = sides_have g rs hand alone b
 leaf_has g rs hand n alone b (membership a s p q) l h = sides_have g rs hand alone b a p q n (membership_stands g rs a s p q h.stands) h.predicate (all_first (Each rs hand) (free_variables p) (free_variables q) h.at_hand) (all_second (Each rs hand) (free_variables p) (free_variables q) h.at_hand)
 leaf_has g rs hand n alone b (ceil a s p) l h = ceil_has g rs hand alone b a s p n h l
 leaf_has g rs hand n alone b (exists s x t p) l h = question_has g rs hand b (exists s x t p) (head_question g [] (exists s x t p)) n refl h
+leaf_has g rs hand n alone b (forall s x t p) l h = denied_has g rs hand b (forall s x t p) (denied_question g [] (forall s x t p)) n refl h
 leaf_has g rs hand n alone b p l h = quotation_has g rs hand b p n h
 
 -- ---- clauses
