@@ -108,7 +108,7 @@ tells_met t used s place k q m next apart (answer.UndecidedClauses o) w f met h 
     let compares = counted_for t.signature s (with_clauses m.part m.equations).state (f.rule ∷ []) (most_for t.signature s (left ∷ [])) shows.0 o.over (most_of_one t.signature s f.rule left form) h.1 shows.1 in
     let r = with_clauses m.part m.equations in
     let shown = shown_of_instance t.signature s r.state (clauses_view o.shown.items) shows.0 w.instance shows.2 in
-    (f.rule, f.at, shows.0, shows.1, open_foreign t s f.rule f.left r (clauses_view o.shown.items) shows.0 f.body own (met_where t used s place k q m next apart w f met) (met_comes t used s place k q m next apart w f met) shown compares)
+    (f.rule, f.at, shows.0, shows.1, open_foreign t s f.rule f.left r (clauses_view o.shown.items) shows.0 f.body own (met_where t used s place k q m next apart w f met) (met_comes t used s place k q m next apart w f met) shown compares, f.left, f.body)
 
 -- where nothing is met
 pub tells_apart : (t : Theory) (used : List Text) (s : SymbolicState) (place : ℕ) (k : Skeleton) (q : NumberedPart) → IsWholeReady t.signature used s q → IsForeignAt t place k → IsAllApart t.signature (skeleton_view k) q.part → TellsForeign t s place answer.Nothing

@@ -1,5 +1,5 @@
 -- What is shown compares no more whole-number variables than stand in the state and in the rules' left sides.
-use Rattle.std.proofs.Common.{◌≡◌, refl, sym, ap, subst, ◌∙◌, ℕ, ◌+◌, arith, Bool, true, false, List, [], ◌∷◌, ◌++◌, Option, Some, None, Result, Ok, Err, IfOk}
+use Rattle.std.proofs.Common.{◌≡◌, refl, sym, ap, subst, ◌∙◌, ℕ, ◌+◌, arith, Bool, true, false, List, [], ◌∷◌, ◌++◌, Option, Some, None, Result, Ok, Err, IfOk, map}
 use Rattle.std.specs.Prelude.{if◌then◌else◌}
 use Rattle.kp_kore.specs.Signature.{KoreSignature}
 use Rattle.kp_kore.specs.Rules.{RewriteRule}
@@ -12,7 +12,17 @@ use Rattle.kp_satisfiability.specs.Answers.{IsWeighedAs}
 use Rattle.kp_rules.specs.Skeletons.{Form}
 use Rattle.kp_limits.specs.Compared.{numeric_places}
 use Rattle.kp_step.specs.Comes.{IsFormOf}
-use Rattle.kp_step.specs.Counted.{AreLeftsOf, has_numbers_above, counted_lefts, most_for, IsMost, ComparesWithin, IsCounted}
+use Rattle.std.specs.List.{AllZip}
+use Rattle.kp_rule_sets.specs.declared.rule_set.RuleSet.{RuleSet}
+use Rattle.kp_unify.specs.Views.{signature_of}
+use Rattle.kp_unify.specs.declared.part.Setting.{Setting}
+use Rattle.kp_step.specs.Rules.{Steps}
+use Rattle.kp_step.specs.Found.{IsRuleAt}
+use Rattle.kp_step.specs.Views.{turn_view}
+use Rattle.kp_step.specs.Promises.{AreAsked}
+use Rattle.kp_step.specs.declared.turns.Turn.{Turn}
+use Rattle.kp_step.specs.declared.part_answers.UndecidedClauses.{UndecidedClauses}
+use Rattle.kp_step.specs.Counted.{these_rules, AreLeftsOf, has_numbers_above, counted_lefts, most_for, IsMost, ComparesWithin, IsComparedWithin, IsCounted}
 
 -- what was counted is told of the weight that is meant
 pub counted_for : (g : KoreSignature) (s p : SymbolicState) (rules : List RewriteRule) (n : ℕ) (h : Option Weighed) (w : Option code.Weighed) → IsMost g s rules n → IsCounted g p n w → IsWeighedAs h w → ComparesWithin g s p rules h
@@ -102,3 +112,33 @@ one_left_counted g s left places (Err x) e c = tt
 pub none_counted : {E : Type 0} (g : KoreSignature) (s : SymbolicState) (n : Result ℕ E) → IfOk n (CountsFor g s 0) → IfOk n (λ m. m ≡ most_for g s [])
 none_counted g s (Ok n) c = c [] refl
 none_counted g s (Err x) c = tt
+
+-- where no weight is told, nothing is compared; else what was counted
+pub not_weighed : (g : KoreSignature) (s p : SymbolicState) (rules : List RewriteRule) (w : Option code.Weighed) → w ≡ None → IsComparedWithin g s p rules w
+not_weighed g s p rules w e None i = tt
+not_weighed g s p rules w e (Some h) i = absurd (subst (IsWeighedAs (Some h)) e i)
+
+pub counted_within : (t : Theory) (g : KoreSignature) (s p : SymbolicState) (rules : List RewriteRule) (n : ℕ) (w : Option code.Weighed) → g ≡ t.signature → IsMost t.signature s rules n → IsCounted g p n w → IsComparedWithin g s p rules w
+counted_within t g s p rules n w e m c h i = counted_for g s p rules n h w (subst (λ k. IsMost k s rules n) (sym e) m) c i
+
+pub counted_if : {E : Type 0} (t : Theory) (g : KoreSignature) (s p : SymbolicState) (rules : List RewriteRule) (n : ℕ) (r : Result UndecidedClauses E) → g ≡ t.signature → IsMost t.signature s rules n → IfOk r (λ o. IsCounted g p n o.over) → IfOk r (λ o. IsComparedWithin g s p rules o.over)
+counted_if t g s p rules n (Ok o) e m c = counted_within t g s p rules n o.over e m c
+counted_if t g s p rules n (Err x) e m c = tt
+
+-- ---- what is asked for
+
+pub asked_signature : (t : Theory) (k : Setting) (rules : RuleSet) (turns : List Turn) (left : Option Form) (o : Option RewriteRule) (found : List RewriteRule) → AreAsked t k rules turns left o found → signature_of k ≡ t.signature
+asked_signature t k rules turns (Some left) (Some r) found a = a.0.signature
+asked_signature t k rules turns None None found a = a.0.signature
+asked_signature t k rules turns (Some left) None found a = absurd a
+asked_signature t k rules turns None (Some r) found a = absurd a
+
+pub asked_with : (t : Theory) (k : Setting) (rules : RuleSet) (turns : List Turn) (left : Form) (o : Option RewriteRule) (found : List RewriteRule) (P : List RewriteRule → Type 0) → AreAsked t k rules turns (Some left) o found →
+    ((r : RewriteRule) → Steps t k rules → IsFormOf t.signature r.body left → AllZip (IsRuleAt t) (map turn_view turns) found → P (r ∷ found)) → P (these_rules o found)
+asked_with t k rules turns left (Some r) found P a f = f r a.0 a.1 a.2
+asked_with t k rules turns left None found P a f = absurd a
+
+pub asked_alone : (t : Theory) (k : Setting) (rules : RuleSet) (turns : List Turn) (o : Option RewriteRule) (found : List RewriteRule) (P : List RewriteRule → Type 0) → AreAsked t k rules turns None o found →
+    (Steps t k rules → AllZip (IsRuleAt t) (map turn_view turns) found → P found) → P (these_rules o found)
+asked_alone t k rules turns None found P a f = f a.0 a.1
+asked_alone t k rules turns (Some r) found P a f = absurd a

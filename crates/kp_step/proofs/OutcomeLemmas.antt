@@ -16,8 +16,12 @@ use Rattle.kp_step.specs.ReadyParts.{HasInstance}
 use Rattle.kp_step.specs.Found.{PlacedTurn, IsRuleAt, IsTurnAt, IsTurnAmong, AreAllFound}
 use Rattle.kp_step.specs.Follows.{AreNextsOf}
 use Rattle.kp_step.specs.Tries.{OneFiresOnAll, AreRemaining}
+use Rattle.kp_symbolic.specs.Solving.{Solving}
+use Rattle.kp_kore.specs.Signature.{KoreSignature}
+use Rattle.kp_case_laws.specs.Parts.{StatePart}
+use Rattle.kp_unify.specs.Narrowed.{NumberedPart}
 use Rattle.kp_step.specs.Limits.{PassesNone, IsCaseMade}
-use Rattle.kp_step.specs.Views.{numbered_views, next_view, next_told}
+use Rattle.kp_step.specs.Views.{numbered_views, next_view, next_told, part_told}
 use Rattle.kp_step.specs.Remainders.{IsPartIn}
 use Rattle.kp_step.specs.RightSteps.{IsCaseOf, IsRemainderOf, GoesOnFrom, RemainsOf, FiresAlone, AreCasesOf}
 use Rattle.kp_step.specs.declared.outcome.Next.{Next}
@@ -62,15 +66,22 @@ fires_alone t used s turns found (n ∷ []) [] h z f o =
 fires_alone t used s turns found (n ∷ []) (p ∷ ps) h z f o = tt
 fires_alone t used s turns found (n ∷ m ∷ ns) ps h z f o = tt
 
-remains_of : (t : Theory) (used : List Text) (s : SymbolicState) (ps : List Part) → AllByRecursion (IsPartIn t.signature used (whole s) (whole s)) (numbered_views ps) → ComeOfTheory t (whole s) (numbered_views ps) → AllByRecursion (RemainsOf t used s) ps
-remains_of t used s [] i c = tt
-remains_of t used s (p ∷ ps) i c = (record { comes = c.0; grown = i.0.grown; ready = i.0.ready }, remains_of t used s ps i.1 c.1)
+-- a part's equations are solved
+abbrev pub HasBeenSolved : KoreSignature → NumberedPart → Type 0
+HasBeenSolved g r = (q : StatePart) × Solving g q.state r.part.state
+
+remains_of : (t : Theory) (used : List Text) (s : SymbolicState) (ps : List Part) → AllByRecursion (IsPartIn t.signature used (whole s) (whole s)) (numbered_views ps) → ComeOfTheory t (whole s) (numbered_views ps) → AllByRecursion (HasBeenSolved t.signature) (numbered_views ps) → AllByRecursion (λ x. PassesNone t.signature x) (map part_told ps) →
+    AllByRecursion (RemainsOf t used s) ps
+remains_of t used s [] i c d l = tt
+remains_of t used s (p ∷ ps) i c d l = (record { comes = c.0; grown = i.0.grown; ready = i.0.ready; solved = d.0; limits = l.0 }, remains_of t used s ps i.1 c.1 d.1 l.1)
 
 -- the next states and the remainder are the cases of a step
 pub cases_are : (t : Theory) (used : List Text) (s : SymbolicState) (turns : List PlacedTurn) (ns : List Next) (ps : List Part) (f : AreAllFound t used (whole s) turns) → AreNextsOf t used (whole s) turns (map next_view ns) → HaveOwnIds t.rules → OfEachInstance t.signature (whole s) (λ w c. ¬ IsUnknown t c) →
-    AreRemaining t used s (rules_of (turns_of t used (whole s) turns turns f.each)) (numbered_views ps) → AllByRecursion (λ x. PassesNone t.signature x) (map next_told ns) → HasInstance t.signature (whole s) → AreCasesOf t used s ns ps
-cases_are t used s turns ns ps f z own known r limits some = record {
+    AreRemaining t used s (rules_of (turns_of t used (whole s) turns turns f.each)) (numbered_views ps) → AllByRecursion (HasBeenSolved t.signature) (numbered_views ps) → PassesNone t.signature s → AllByRecursion (λ x. PassesNone t.signature x) (map next_told ns) → AllByRecursion (λ x. PassesNone t.signature x) (map part_told ps) → HasInstance t.signature (whole s) →
+    AreCasesOf t used s ns ps
+cases_are t used s turns ns ps f z own known r solved none limits rest_limits some = record {
   instance = some;
+  own_limits = none;
   by_rules = all_cases t used (whole s) turns turns (map next_view ns) f.each z;
   others = rest_cases (numbered_views ps);
   each_next = cases_of t ns (all_cases t used (whole s) turns turns (map next_view ns) f.each z) (all_told t used (whole s) turns turns (map next_view ns) f.each z);
@@ -80,7 +91,7 @@ cases_are t used s turns ns ps f z own known r limits some = record {
   each = go_on_from t used s ns (all_go_on t used (whole s) turns turns (map next_view ns) f.each z) limits;
   remains =
       let found = rules_of (turns_of t used (whole s) turns turns f.each) in
-      remains_of t used s ps r.left.each (rest_comes t found (whole s) (numbered_views ps) (rules_in_theory t turns found (found_rules t used (whole s) turns turns f.each)) r.left.comes);
+      remains_of t used s ps r.left.each (rest_comes t found (whole s) (numbered_views ps) (rules_in_theory t turns found (found_rules t used (whole s) turns turns f.each)) r.left.comes) solved rest_limits;
   alone = fires_alone t used s turns (rules_of (turns_of t used (whole s) turns turns f.each)) ns ps (turns_at t used s turns turns f.each) z (found_rules t used (whole s) turns turns f.each) r.alone;
 }
 

@@ -22,7 +22,7 @@ use Rattle.kp_step.specs.Places.{IsAt}
 use Rattle.kp_step.specs.Remainders.{AreKept, none_left}
 use Rattle.kp_step.specs.Found.{PlacedTurn, IsTurnAt, IsTried, AreTriedBefore, AreFound, AreAllFound}
 use Rattle.kp_step.specs.Answers.{ShowsOf}
-use Rattle.kp_step.specs.Counted.{IsCounted}
+use Rattle.kp_step.specs.Counted.{IsComparedWithin}
 use Rattle.kp_step.specs.Follows.{IsSolvedPart}
 use Rattle.kp_step.specs.Views.{numbered_views, turn_view}
 use Rattle.kp_step.specs.declared.turns.Turn.{Turn}
@@ -70,9 +70,9 @@ next_sorted g used all kept items rest p e d =
     sorted_clauses g (numbered_view p).part.state h.0.0.safe.sorted
 
 -- what is left open of it
-pub decides_open : (g : KoreSignature) (used : List Text) (s : SymbolicState) (most : ℕ) (all kept items rest : List Part) (p : Part) (told o : UndecidedClauses) → items ≡ p ∷ rest → ShowsOf g s (numbered_view p).part.state told → o ≡ told → IsCounted g (numbered_view p).part.state most o.over →
-    Deciding g used (numbered_views all) (numbered_views items) (numbered_views kept) → (q : NumberedPart) × Contains (numbered_views all) q × ShowsOf g s q.part.state o × IsCounted g q.part.state most o.over
-decides_open g used s most all kept items rest p told o e shows same counted d =
+pub decides_open : (g : KoreSignature) (used : List Text) (s : SymbolicState) (rules : List RewriteRule) (all kept items rest : List Part) (p : Part) (told o : UndecidedClauses) → items ≡ p ∷ rest → ShowsOf g s (numbered_view p).part.state told → o ≡ told → IsComparedWithin g s (numbered_view p).part.state rules o.over →
+    Deciding g used (numbered_views all) (numbered_views items) (numbered_views kept) → (q : NumberedPart) × Contains (numbered_views all) q × ShowsOf g s q.part.state o × IsComparedWithin g s q.part.state rules o.over
+decides_open g used s rules all kept items rest p told o e shows same counted d =
     let h : Deciding g used (numbered_views all) (numbered_view p ∷ numbered_views rest) (numbered_views kept) = subst (λ xs. Deciding g used (numbered_views all) (numbered_views xs) (numbered_views kept)) e d in
     (numbered_view p, h.1.0, subst (ShowsOf g s (numbered_view p).part.state) (sym same) shows, counted)
 

@@ -8,7 +8,7 @@ use Rattle.kp_kore.specs.Syntax.{Text}
 use Rattle.kp_kore.specs.Signature.{KoreSignature}
 use Rattle.kp_kore.specs.Rules.{Rewrite, rewrite, RewriteRule}
 use Rattle.kp_kore.specs.Theory.{Theory}
-use Rattle.kp_kore.specs.Steps.{Fires, HasTurn, AnyByRecursion}
+use Rattle.kp_kore.specs.Steps.{Fires, HasTurn, IsUnknown, AnyByRecursion}
 use Rattle.kp_kore.specs.Instance.{Valuation, is_named}
 use Rattle.kp_kore.proofs.NameLemmas.{true_is_false}
 use Rattle.kp_symbolic.specs.Terms.{Replaced}
@@ -21,7 +21,6 @@ use Rattle.kp_rules.specs.declared.skeleton.Skeleton.{Skeleton}
 use Rattle.kp_rules.specs.LeftSides.{IsLeftSide}
 use Rattle.kp_rules.specs.LeftForms.{left_form}
 use Rattle.kp_step.specs.Comes.{IsFormOf}
-use Rattle.kp_step.specs.Counted.{IsMost}
 use Rattle.kp_overlap.specs.Overlaps.{MeetsForm}
 use Rattle.kp_rules.specs.Sides.{AreSidesOf}
 use Rattle.kp_rules.specs.VerifiedSides.{AreVerifiedSides}
@@ -43,11 +42,11 @@ use Rattle.kp_step.specs.Ready.{IsWholeReady}
 use Rattle.kp_step.specs.Remainders.{IsPartIn, AreUntaken}
 use Rattle.kp_step.specs.Found.{PlacedTurn, IsRuleAt, IsMetIn, IsTurnAt, AreTriedBefore}
 use Rattle.kp_step.specs.Causes.{AreAllBefore}
-use Rattle.kp_step.specs.Limits.{TermLimit, number, Passes, IsPassed}
+use Rattle.kp_step.specs.Limits.{TermLimit, number, Passes, PassesNone, HasNoWideCondition, IsPassed}
 use Rattle.kp_step.specs.Meets.{MeetsRule, AllMeet}
 use Rattle.kp_step.specs.Tries.{PlacedFiring, narrowed_of, IsLeftAt, IsFiringOf, CanMeet, AreTurnParts}
 use Rattle.kp_step.specs.Views.{numbered_views, limit_view}
-use Rattle.kp_step.specs.RightSteps.{IsToldUndecided}
+use Rattle.kp_step.specs.RightSteps.{IsBehindRule, IsToldUndecided}
 use Rattle.kp_step.specs.Answers.{IsRightAnswerOf, AreMet, IsMetAnswer, TellsWhereMet, firing_model, AreDecided, TellsParts}
 use Rattle.kp_step.specs.declared.part_answers.UndecidedClauses.{UndecidedClauses}
 use Rattle.kp_step.specs.declared.part_answers.PartAnswer as answers
@@ -57,12 +56,20 @@ use Rattle.kp_step.specs.declared.part_answers.Decided.TheVariants as decided
 use Rattle.kp_step.specs.declared.outcome.StepLimit.{StepLimit}
 use Rattle.kp_step.proofs.AnswerLemmas.{MayBe, may_by_instance, may_by_open}
 use Rattle.kp_step.proofs.FiringLemmas.{is_firing}
+use Rattle.kp_step.proofs.LimitLemmas.{none_wide}
 use Rattle.kp_step.proofs.FoundLemmas.{one_at, contains_at}
 use Rattle.kp_step.proofs.MeetLemmas.{no_parts, some_part_meets, form_meets, clauses_meet, other_form, met_answer}
 use Rattle.kp_step.proofs.TryLemmas.{fires_there, rules_are_found, rules_in_theory, no_turn_at, unread_no_turn}
-use Rattle.kp_step.proofs.TurnLemmas.{can_meet, met_sorted, narrowed_sorted, nothing_there, parts_told, passes_condition}
+use Rattle.kp_step.proofs.TurnLemmas.{can_meet, met_sorted, narrowed_sorted, nothing_there, parts_told, passes_condition, no_wide_condition}
+use Rattle.kp_step.specs.Promises.{TellsNoNumber, IsBehindNumber}
+use Rattle.kp_step.specs.declared.turns.Tried.{Tried}
+use Rattle.kp_step.specs.declared.turns.Tried.TheVariants as tried
+use Rattle.kp_step.specs.declared.outcome.StepOutcome.TheVariants as outcome
 
 -- ---- whether its left side may meet the part
+
+nothing_in : (g : KoreSignature) (p : StatePart) → HasNoInstance g (whole p.state) → HasNoInstance g p
+nothing_in g p none = λ w c h k. none w c h k
 
 may_be : (g : KoreSignature) (s x : SymbolicState) (a : answers.PartAnswer) → ¬ (a ≡ answer.Nothing) → IsRightAnswerOf g s x a → MayBe g x
 may_be g s x answer.Instance some i = may_by_instance g x i
@@ -107,6 +114,14 @@ may_meet t used s y place f k g x a e d sorted at i same told some =
     let m = met_answer t.signature g s y z x (skeleton_view k) a e d same (met_sorted t used s place f i) (met_there t used s place f k f.equations i sorted at (λ w h. h)) told in
     can_meet t s place f (rule_there t used s place f k i at (m.meets some)) (may_be t.signature s z a some m.right)
 
+-- it stands for no instance, where that is known
+pub not_met : (t : Theory) (used : List Text) (s y : SymbolicState) (place : ℕ) (f : PlacedFiring) (k : Skeleton) (g : KoreSignature) (x : SymbolicState) (a : answers.PartAnswer) → g ≡ t.signature → y ≡ s → IsSortedState t.signature s → IsLeftAt t place k → IsFiringOf t used s place f → x ≡ (with_clauses f.part.part f.equations).state →
+    TellsWhereMet g y x (skeleton_view k) a → a ≡ answer.Nothing → HasNoInstance t.signature (with_clauses f.part.part f.equations)
+not_met t used s y place f k g x a e d sorted at i same told nothing =
+    let p = with_clauses f.part.part f.equations in
+    let m = met_answer t.signature g s y p.state x (skeleton_view k) a e d same (met_sorted t used s place f i) (met_there t used s place f k f.equations i sorted at (λ w h. h)) told in
+    nothing_in t.signature p (subst (λ b. IsRightAnswerOf t.signature s p.state b) nothing m.right)
+
 -- of the part where the rule fires
 pub answer_there : (t : Theory) (used : List Text) (s y : SymbolicState) (place : ℕ) (f : PlacedFiring) (k : Skeleton) (g : KoreSignature) (q : NumberedPart) (a : answers.PartAnswer) → g ≡ t.signature → y ≡ s → IsSortedState t.signature s → IsLeftAt t place k → IsFiringOf t used s place f → q ≡ narrowed_of f →
     TellsWhereMet g y q.part.state (skeleton_view k) a → IsMetAnswer t.signature s (narrowed_of f).part.state (skeleton_view k) a
@@ -141,14 +156,29 @@ passes_number g x l e = by (first_wide g x) refl e
     by None h d = absurd (cc)
     by (Some c) h d = subst (Passes g x) (sym (inside d)) h
 
-pub condition_passes : (t : Theory) (used : List Text) (s : SymbolicState) (place : ℕ) (f : PlacedFiring) (g : KoreSignature) (x : SymbolicState) (l : TermLimit) (o : Option StepLimit) → g ≡ t.signature → IsFiringOf t used s place f → CanMeet t s place f → x ≡ (narrowed_of f).part.state →
+pub condition_passes : (t : Theory) (used : List Text) (s : SymbolicState) (place : ℕ) (f : PlacedFiring) (g : KoreSignature) (x : SymbolicState) (l : TermLimit) (o : Option StepLimit) → g ≡ t.signature → IsFiringOf t used s place f → CanMeet t s place f → PassesNone t.signature s → x ≡ (narrowed_of f).part.state →
     option_map limit_view o ≡ option_map number (first_wide g x) → option_map limit_view o ≡ Some l → IsPassed t s l
-condition_passes t used s place f g x l o e i m same told is = passes_condition t used s place f x l i m same (subst (λ h. Passes h x l) e (passes_number g x l (sym is ∙ told)))
+condition_passes t used s place f g x l o e i m limits same told is = passes_condition t used s place f x l i m limits same (subst (λ h. Passes h x l) e (passes_number g x l (sym is ∙ told)))
+
+-- where none is found, there is none
+pub condition_silent : (t : Theory) (f : PlacedFiring) (g : KoreSignature) (x : SymbolicState) (o : Option StepLimit) → g ≡ t.signature → x ≡ (narrowed_of f).part.state → option_map limit_view o ≡ option_map number (first_wide g x) → o ≡ None → TellsNoNumber t.signature f
+condition_silent t f g x o e same told is = inl (subst (λ y. first_wide t.signature y ≡ None) same (subst (λ h. first_wide h x ≡ None) e (none_wide g x o is told)))
+
+-- of the rule at the place
+pub silent_at : (t : Theory) (used : List Text) (s : SymbolicState) (place : ℕ) (f : PlacedFiring) → IsFiringOf t used s place f → TellsNoNumber t.signature f → (r : RewriteRule) → IsAt t place r → HasNoWideCondition t s r
+silent_at t used s place f i none r at = subst (HasNoWideCondition t s) (one_at t place i.rule r i.at at) (no_wide_condition t used s place f i none)
+
+-- whatever is found of it
+pub turn_is_silent : (t : Theory) (s : SymbolicState) (place : ℕ) (x : Tried) → ((r : RewriteRule) → IsAt t place r → HasNoWideCondition t s r) → IsBehindNumber t s place x
+turn_is_silent t s place tried.NoTurn h = h
+turn_is_silent t s place (tried.Turn k) h = h
+turn_is_silent t s place (tried.Ended outcome.Empty) h = h
+turn_is_silent t s place (tried.Ended (outcome.Cases nexts rest)) h = h
+turn_is_silent t s place (tried.Ended (outcome.Undecided told rule)) h = h
+turn_is_silent t s place (tried.Ended (outcome.Foreign rule)) h = h
+turn_is_silent t s place (tried.Ended (outcome.Limited l)) h = tt
 
 -- ---- its parts
-
-nothing_in : (g : KoreSignature) (p : StatePart) → HasNoInstance g (whole p.state) → HasNoInstance g p
-nothing_in g p none = λ w c h k. none w c h k
 
 -- where it is known that it has no instance, nothing is left to the rule
 pub nothing_told : (t : Theory) (used : List Text) (s : SymbolicState) (place : ℕ) (found : List RewriteRule) (f : PlacedFiring) (left : Form) (a : answers.PartAnswer) (parts : List Part) → IsFiringOf t used s place f → IsMetAnswer t.signature s (narrowed_of f).part.state left a → a ≡ answer.Nothing → parts ≡ [] →
@@ -167,12 +197,12 @@ all_ready g used s m [] h = tt
 all_ready g used s m (p ∷ parts) h = (h.0.ready, all_ready g used s m parts h.1)
 
 -- those that are left, as far as that is decided
-pub left_told : (t : Theory) (used : List Text) (s y : SymbolicState) (place : ℕ) (found : List RewriteRule) (f : PlacedFiring) (g : KoreSignature) (i : IsFiringOf t used s place f) (turns : List PlacedTurn) (most : ℕ) (parts : List NumberedPart) (d : decisions.Decided) → g ≡ t.signature → y ≡ s → HasInstance t.signature (whole s) → AllZip (IsRuleAt t) turns found → MeetsRule t.signature s i.rule.body → AllMeet t.signature s found → IsMost t.signature y (i.rule ∷ found) most →
-    AreUntaken g used (Some i.rule) found (whole s) f.part.part parts → (AllByRecursion (IsReadyPart g used) parts → AreDecided g y most parts d) → TellsParts t used s place found f.part.part d
-left_told t used s y place found f g i turns most parts d e same there z own all m l told =
-    let k : AreDecided g y most parts d = told (all_ready g used (whole s) f.part.part parts l.each) in
-    parts_told t used s place found f i turns most parts d there z own all (subst (λ x. IsMost t.signature x (i.rule ∷ found) most) same m) (subst (λ h. AreUntaken h used (Some i.rule) found (whole s) f.part.part parts) e l)
-    (subst (λ h. AreDecided h s most parts d) e (subst (λ x. AreDecided g x most parts d) same k))
+pub left_told : (t : Theory) (used : List Text) (s y : SymbolicState) (place : ℕ) (found : List RewriteRule) (f : PlacedFiring) (g : KoreSignature) (i : IsFiringOf t used s place f) (turns : List PlacedTurn) (parts : List NumberedPart) (d : decisions.Decided) → g ≡ t.signature → y ≡ s → HasInstance t.signature (whole s) → AllZip (IsRuleAt t) turns found → MeetsRule t.signature s i.rule.body → AllMeet t.signature s found →
+    AreUntaken g used (Some i.rule) found (whole s) f.part.part parts → (AllByRecursion (IsReadyPart g used) parts → AreDecided g y (i.rule ∷ found) parts d) → TellsParts t used s place found f.part.part d
+left_told t used s y place found f g i turns parts d e same there z own all l told =
+    let k : AreDecided g y (i.rule ∷ found) parts d = told (all_ready g used (whole s) f.part.part parts l.each) in
+    parts_told t used s place found f i turns parts d there z own all (subst (λ h. AreUntaken h used (Some i.rule) found (whole s) f.part.part parts) e l)
+    (subst (λ h. AreDecided h s (i.rule ∷ found) parts d) e (subst (λ x. AreDecided g x (i.rule ∷ found) parts d) same k))
 
 -- ---- its turn
 
@@ -238,8 +268,18 @@ all_before t s place m turns found r read at z tried w c sorts met q member less
     ]
 
 pub open_told : (t : Theory) (used : List Text) (s : SymbolicState) (place : ℕ) (m : Rewrite) (turns : List PlacedTurn) (found : List RewriteRule) (p : StatePart) (o : UndecidedClauses) → IsReadAs t place m → AllZip (IsRuleAt t) turns found → TellsParts t used s place found p (decided.UndecidedClauses o) → AreTriedBefore t (whole s) turns place →
-    IsToldUndecided t s (clauses_view o.shown.items) o.over (Some place)
-open_told t used s place m turns found p o read z k tried = record { rule = Some k.0; is_rule = k.1; weight = k.2; weighed = k.3; what_is_undecided = k.4 (all_before t s place m turns found k.0 read k.1 z tried) }
+    first_wide t.signature s ≡ None → OfEachInstance t.signature (whole s) (λ w c. ¬ IsUnknown t c) → ((r : RewriteRule) → IsAt t place r → HasNoWideCondition t s r) → IsToldUndecided t s (clauses_view o.shown.items) o.over (Some place)
+open_told t used s place m turns found p o read z k tried none known silent = record {
+  rule = Some k.0;
+  is_rule = k.1;
+  weight = k.2;
+  weighed = k.3;
+  what_is_undecided = k.4 (all_before t s place m turns found k.0 read k.1 z tried);
+  no_number = none;
+  behind =
+      let body : k.0.body ≡ rewrite m = subst (λ x. x.body ≡ rewrite m) (one_at t place read.0 k.0 read.1 k.1) read.2 in
+      subst (IsBehindRule t s (Some place) k.0) (sym body) (known, silent k.0 k.1);
+}
 
 -- ---- a rule that doesn't fire
 

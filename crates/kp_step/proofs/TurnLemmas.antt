@@ -15,15 +15,14 @@ use Rattle.kp_unify.specs.declared.part.Part.{Part}
 use Rattle.kp_satisfiability.specs.Read.{HasSortedClauses}
 use Rattle.kp_step.specs.ReadyParts.{HasInstance, parts_of}
 use Rattle.kp_step.specs.Meets.{MeetsRule, AllMeet}
-use Rattle.kp_step.specs.Counted.{IsMost}
-use Rattle.kp_step.proofs.CountLemmas.{counted_for}
 use Rattle.kp_step.specs.Comes.{ComesFrom}
 use Rattle.kp_step.specs.Places.{IsAt}
 use Rattle.kp_step.specs.Remainders.{IsPartIn, AreUntaken, falls_away, none_left}
 use Rattle.kp_step.specs.Found.{PlacedTurn, IsRuleAt, IsTurnAt}
-use Rattle.kp_step.specs.Limits.{TermLimit, Passes, IsPassed}
+use Rattle.kp_step.specs.Limits.{TermLimit, Passes, PassesNone, HasNoWideCondition, IsPassed}
 use Rattle.kp_step.specs.Tries.{PlacedFiring, narrowed_of, IsFiringOf, CanMeet, AreTurnParts}
 use Rattle.kp_step.specs.Answers.{AreDecided, TellsParts}
+use Rattle.kp_step.specs.Promises.{TellsNoNumber}
 use Rattle.kp_step.specs.Views.{numbered_views}
 use Rattle.kp_step.specs.declared.part_answers.Decided as decisions
 use Rattle.kp_step.specs.declared.part_answers.Decided.TheVariants as decided
@@ -47,8 +46,8 @@ pub can_meet : (t : Theory) (s : SymbolicState) (place : ℕ) (f : PlacedFiring)
 can_meet t s place f meets m = record { meets = meets; answer = m.verdict; right = m.right; may_be = m.not_none }
 
 -- a limit of the condition is one of the step
-pub passes_condition : (t : Theory) (used : List Text) (s : SymbolicState) (place : ℕ) (f : PlacedFiring) (x : SymbolicState) (l : TermLimit) → IsFiringOf t used s place f → CanMeet t s place f → x ≡ (narrowed_of f).part.state → Passes t.signature x l → IsPassed t s l
-passes_condition t used s place f x l i m e p = record {
+pub passes_condition : (t : Theory) (used : List Text) (s : SymbolicState) (place : ℕ) (f : PlacedFiring) (x : SymbolicState) (l : TermLimit) → IsFiringOf t used s place f → CanMeet t s place f → PassesNone t.signature s → x ≡ (narrowed_of f).part.state → Passes t.signature x l → IsPassed t s l
+passes_condition t used s place f x l i m limits e p = record {
   state = x;
   which = inr (inl (record {
     rule = i.rule;
@@ -66,7 +65,21 @@ passes_condition t used s place f x l i m e p = record {
     can_meet = m.may_be;
     is = e;
   }));
+  own_first = inr limits;
   passes = p;
+}
+
+-- no number of the condition leaves 128 bits
+pub no_wide_condition : (t : Theory) (used : List Text) (s : SymbolicState) (place : ℕ) (f : PlacedFiring) (i : IsFiringOf t used s place f) → TellsNoNumber t.signature f → HasNoWideCondition t s i.rule
+no_wide_condition t used s place f i none = record {
+  firing = record { part = f.part.part; clauses = f.equations ++ f.condition };
+  apart = f.apart;
+  cases = subst (λ b. AreFiringCases t.signature b (whole s) (Some (record { part = f.part.part; clauses = f.equations ++ f.condition })) f.apart) (sym i.body) i.cases;
+  comes = subst (λ b. ComesFrom t.signature (λ d. d ≡ b) (whole s) (narrowed_of f).part) (sym i.body) i.comes;
+  equations = f.equations;
+  condition = f.condition;
+  are = refl;
+  none = none;
 }
 
 -- where it has no instance, nothing is left to the rule
@@ -81,17 +94,17 @@ nothing_there t used s place found f i none =
     }
 
 -- the parts that are left to it, as far as that is decided
-pub parts_told : (t : Theory) (used : List Text) (s : SymbolicState) (place : ℕ) (found : List RewriteRule) (f : PlacedFiring) (i : IsFiringOf t used s place f) (turns : List PlacedTurn) (most : ℕ) (parts : List NumberedPart) (d : decisions.Decided) → HasInstance t.signature (whole s) → AllZip (IsRuleAt t) turns found → MeetsRule t.signature s i.rule.body → AllMeet t.signature s found → IsMost t.signature s (i.rule ∷ found) most →
-    AreUntaken t.signature used (Some i.rule) found (whole s) f.part.part parts → AreDecided t.signature s most parts d → TellsParts t used s place found f.part.part d
-parts_told t used s place found f i turns most parts (decided.Parts ks) there z own all m l k = record {
+pub parts_told : (t : Theory) (used : List Text) (s : SymbolicState) (place : ℕ) (found : List RewriteRule) (f : PlacedFiring) (i : IsFiringOf t used s place f) (turns : List PlacedTurn) (parts : List NumberedPart) (d : decisions.Decided) → HasInstance t.signature (whole s) → AllZip (IsRuleAt t) turns found → MeetsRule t.signature s i.rule.body → AllMeet t.signature s found →
+    AreUntaken t.signature used (Some i.rule) found (whole s) f.part.part parts → AreDecided t.signature s (i.rule ∷ found) parts d → TellsParts t used s place found f.part.part d
+parts_told t used s place found f i turns parts (decided.Parts ks) there z own all l k = record {
   rule = i.rule;
   at = i.at;
   left = kept_is_left t.signature used (Some i.rule) found (whole s) f.part.part parts (numbered_views ks.items) k l;
   instances = kept_have t.signature parts (numbered_views ks.items) k;
 }
-parts_told t used s place found f i turns most parts (decided.UndecidedClauses o) there z own all m l k =
+parts_told t used s place found f i turns parts (decided.UndecidedClauses o) there z own all l k =
     let shows = k.2 in
-    let compares = counted_for t.signature s k.0.part.state (i.rule ∷ found) most shows.0 o.over m k.3 shows.1 in
+    let compares = k.3 shows.0 shows.1 in
     let shown = shown_of_instance t.signature s k.0.part.state (clauses_view o.shown.items) shows.0 there shows.2 in
     (i.rule, i.at, shows.0, shows.1, undecided_rule t used s f.part.part i.rule i.read found parts k.0 (clauses_view o.shown.items) shows.0 i.body (rules_in_theory t turns found z) own all l k.1 shown compares)
 

@@ -1,9 +1,9 @@
 -- What the code finds of parts and rules, and when that is right.
-use Rattle.std.specs.Prelude.{◌≡◌, ◌⊎◌, ℕ, List, [], ◌++◌, ◌∷◌, Option, Some, None, map, ⊤}
+use Rattle.std.specs.Prelude.{◌≡◌, ◌⊎◌, ◌<◌, ℕ, take, get_or, length, List, [], ◌++◌, ◌∷◌, Option, Some, None, map, ⊤}
 use Rattle.std.specs.List.{AllByRecursion, Contains}
 use Rattle.kp_kore.specs.Syntax.{Text}
 use Rattle.kp_kore.specs.Signature.{KoreSignature}
-use Rattle.kp_kore.specs.Rules.{RewriteRule}
+use Rattle.kp_kore.specs.Rules.{RewriteRule, ForeignLeft, foreign_rule}
 use Rattle.kp_kore.specs.Theory.{Theory}
 use Rattle.kp_kore.specs.Steps.{Fires, HasTurn, IsUnknownBy, IsUnknown}
 use Rattle.kp_symbolic.specs.States.{Literal, SymbolicState}
@@ -18,7 +18,7 @@ use Rattle.kp_case_laws.specs.Firing.{HasNoInstance}
 use Rattle.kp_unify.specs.Narrowed.{NumberedPart}
 use Rattle.kp_unify.specs.Views.{numbered_view}
 use Rattle.kp_overlap.specs.Overlaps.{MeetsForm}
-use Rattle.kp_step.specs.Counted.{most_for, IsCounted}
+use Rattle.kp_step.specs.Counted.{most_for, IsCounted, IsComparedWithin}
 use Rattle.kp_step.specs.declared.firing.Firing.{Firing}
 use Rattle.kp_step.specs.Places.{IsAt}
 use Rattle.kp_step.specs.ReadyParts.{HasInstance, parts_of}
@@ -27,7 +27,7 @@ use Rattle.kp_step.specs.Found.{PlacedTurn, IsTurnAt, AreTriedBefore, AreAllFoun
 use Rattle.kp_step.specs.Tries.{PlacedFiring, AreTurnParts, AreRemaining}
 use Rattle.kp_step.specs.Causes.{AreAllBefore, IsUndecidedStep, MeetsForeign}
 use Rattle.kp_step.specs.Views.{numbered_views, turn_view}
-use Rattle.kp_step.specs.RightSteps.{IsRightStep}
+use Rattle.kp_step.specs.RightSteps.{IsToldUndecided, IsRightStep}
 use Rattle.kp_step.specs.declared.part_answers.UndecidedClauses.{UndecidedClauses}
 use Rattle.kp_step.specs.declared.foreign.UndecidedRule.{UndecidedRule}
 use Rattle.kp_step.specs.declared.part_answers.PartAnswer as answers
@@ -89,10 +89,10 @@ IsCountedAnswer g p most a = ⊤
 abbrev pub IsForeignAnswer : KoreSignature → SymbolicState → SymbolicState → Form → answers.PartAnswer → Type 0
 IsForeignAnswer g s p left a = IsMetAnswer g s p left a × IsCountedAnswer g p (most_for g s (left ∷ [])) a
 
--- those of the parts that have an instance, or what is shown of one of them, where so many whole-number variables may be compared
-abbrev pub AreDecided : KoreSignature → SymbolicState → ℕ → List NumberedPart → decisions.Decided → Type 0
-AreDecided g s most ps (decided.Parts ks) = AreKept g ps (numbered_views ks.items)
-AreDecided g s most ps (decided.UndecidedClauses o) = (q : NumberedPart) × Contains ps q × ShowsOf g s q.part.state o × IsCounted g q.part.state most o.over
+-- those of the parts that these rules leave that have an instance, or what is shown of one of them
+abbrev pub AreDecided : KoreSignature → SymbolicState → List RewriteRule → List NumberedPart → decisions.Decided → Type 0
+AreDecided g s rules ps (decided.Parts ks) = AreKept g ps (numbered_views ks.items)
+AreDecided g s rules ps (decided.UndecidedClauses o) = (q : NumberedPart) × Contains ps q × ShowsOf g s q.part.state o × IsComparedWithin g s q.part.state rules o.over
 
 -- ---- what rules leave
 
@@ -107,11 +107,32 @@ pub record AreWithout (g : KoreSignature) (used : List Text) (o : Option Rewrite
 abbrev pub TellsForeign : Theory → SymbolicState → ℕ → answers.PartAnswer → Type 0
 TellsForeign t s place answer.Instance = (r : RewriteRule) × IsAt t place r × MeetsForeign t s r
 TellsForeign t s place answer.Nothing = (r : RewriteRule) → IsAt t place r → OfEachInstance t.signature (whole s) (λ w c. ¬ IsUnknownBy t.signature r.body c)
-TellsForeign t s place (answer.UndecidedClauses o) = (r : RewriteRule) × IsAt t place r × (h : Option Weighed) × IsWeighedAs h o.over × IsUndecidedStep t s (Some r) (clauses_view o.shown.items) h
+TellsForeign t s place (answer.UndecidedClauses o) = (r : RewriteRule) × IsAt t place r × (h : Option Weighed) × IsWeighedAs h o.over × IsUndecidedStep t s (Some r) (clauses_view o.shown.items) h × (l : ForeignLeft) × (r.body ≡ foreign_rule l)
 
 -- what is left open of the foreign rule of a place
 abbrev pub IsUndecidedAt : Theory → SymbolicState → UndecidedRule → Type 0
-IsUndecidedAt t s o = (r : RewriteRule) × IsAt t o.place r × (h : Option Weighed) × IsWeighedAs h o.told.over × IsUndecidedStep t s (Some r) (clauses_view o.told.shown.items) h
+IsUndecidedAt t s o = (r : RewriteRule) × IsAt t o.place r × (h : Option Weighed) × IsWeighedAs h o.told.over × IsUndecidedStep t s (Some r) (clauses_view o.told.shown.items) h × (l : ForeignLeft) × (r.body ≡ foreign_rule l)
+
+-- the rule of the place is foreign and might rewrite no instance, where it is
+abbrev pub RewritesNone : Theory → SymbolicState → ℕ → Type 0
+RewritesNone t s i = (r : RewriteRule) → IsAt t i r → OfEachInstance t.signature (whole s) (λ w c. ¬ IsUnknownBy t.signature r.body c)
+
+-- it stands at one of these places, and none before it might rewrite an instance
+pub record StandsFirst (t : Theory) (s : SymbolicState) (places : List ℕ) (x : UndecidedRule) : Type 0 where
+  pub number : ℕ
+  pub within : number < length places
+  pub place : x.place ≡ get_or places number x.place
+  pub before : AllByRecursion (RewritesNone t s) (take number places)
+
+-- of those asked so far at these places, so many: none is left open and none might rewrite an instance, or before the first that is
+abbrev pub IsFirstLeftOpen : Theory → SymbolicState → List ℕ → ℕ → List UndecidedRule → Type 0
+IsFirstLeftOpen t s places i [] = AllByRecursion (RewritesNone t s) (take i places)
+IsFirstLeftOpen t s places i (x ∷ xs) = StandsFirst t s places x
+
+-- of those that are left open the first is told
+abbrev pub TellsFirst : Theory → SymbolicState → List UndecidedRule → Type 0
+TellsFirst t s [] = ⊤
+TellsFirst t s (x ∷ xs) = IsToldUndecided t s (clauses_view x.told.shown.items) x.told.over (Some x.place)
 
 -- of each foreign rule: none might rewrite an instance, or the step ends
 abbrev pub TellsKnown : Theory → List Text → SymbolicState → Option StepOutcome → Type 0

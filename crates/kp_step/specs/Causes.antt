@@ -19,6 +19,7 @@ use Rattle.kp_step.specs.Remainders.{IsOneOf}
 use Rattle.kp_step.specs.Meets.{MeetsRule}
 use Rattle.kp_step.specs.Counted.{these_rules, ComparesWithin}
 use Rattle.kp_step.specs.Places.{IsAt}
+use Rattle.kp_step.specs.Limits.{PassesNone}
 
 -- ---- clauses that aren't decided
 
@@ -98,9 +99,15 @@ told_number r = min r.priority most_priority
 abbrev pub GoesBefore : ℕ → RewriteRule → ℕ → RewriteRule → Type 0
 GoesBefore i q j r = (told_number q < told_number r) ⊎ ((told_number q ≡ told_number r) × i < j)
 
--- the foreign rule of the place might rewrite some instance; each that goes before it is passed by
+-- the state passes no limit, and the foreign rule of the place might rewrite some instance; each that goes before it is passed by
 pub record IsFirstMet (t : Theory) (s : SymbolicState) (place : ℕ) : Type 0 where
   pub rule : RewriteRule
   pub at : IsAt t place rule
   pub meets : MeetsForeign t s rule
+  pub limits : PassesNone t.signature s
   pub before : (i : ℕ) (q : RewriteRule) (l : ForeignLeft) → IsAt t i q → q.body ≡ foreign_rule l → GoesBefore i q place rule → IsPassedBy t s q
+
+-- no foreign rule is known to rewrite an instance, and each that goes before that of the place rewrites none
+pub record IsFirstOpen (t : Theory) (s : SymbolicState) (place : ℕ) (rule : RewriteRule) : Type 0 where
+  pub before : (i : ℕ) (q : RewriteRule) (l : ForeignLeft) → IsAt t i q → q.body ≡ foreign_rule l → GoesBefore i q place rule → OfEachInstance t.signature (whole s) (λ w c. ¬ IsUnknownBy t.signature q.body c)
+  pub none_met : (i : ℕ) (q : RewriteRule) → IsAt t i q → IsPassedBy t s q

@@ -7,6 +7,7 @@ use Rattle.kp_kore.specs.Rules.{RewriteRule}
 use Rattle.kp_symbolic.specs.States.{SymbolicState}
 use Rattle.kp_symbolic.specs.Verdicts.{Weighed}
 use Rattle.kp_limits.specs.declared.weight.Weighed as code
+use Rattle.kp_satisfiability.specs.Answers.{IsWeighedAs}
 use Rattle.kp_rules.specs.Skeletons.{Form}
 use Rattle.kp_limits.specs.Compared.{compared_count, most_compared}
 use Rattle.kp_step.specs.Comes.{IsFormOf}
@@ -41,7 +42,11 @@ abbrev pub ComparesWithin : KoreSignature → SymbolicState → SymbolicState �
 ComparesWithin g s p rules None = ⊤
 ComparesWithin g s p rules (Some h) = (n : ℕ) × IsMost g s rules n × (compared_count g p ≤ n)
 
--- the same of the weight that the code tells, with a number that was counted
+-- the same of whatever weight the code tells
+abbrev pub IsComparedWithin : KoreSignature → SymbolicState → SymbolicState → List RewriteRule → Option code.Weighed → Type 0
+IsComparedWithin g s p rules w = (h : Option Weighed) → IsWeighedAs h w → ComparesWithin g s p rules h
+
+-- with a number that was counted
 abbrev pub IsCounted : KoreSignature → SymbolicState → ℕ → Option code.Weighed → Type 0
 IsCounted g p most None = ⊤
 IsCounted g p most (Some w) = compared_count g p ≤ most

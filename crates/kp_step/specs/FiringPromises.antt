@@ -1,6 +1,6 @@
 -- What the calls promise that try a rule on a part, by name.
 -- Source: this project.
-use Rattle.std.specs.Prelude.{◌∷◌, ◌++◌, [], Bool, IsTrue, List, Vec, Option, Result, IfOk, OnOk}
+use Rattle.std.specs.Prelude.{◌≡◌, ◌∷◌, ◌++◌, [], false, Bool, IsTrue, List, Vec, Option, Result, IfOk, OnOk}
 use Rattle.std.specs.List.{AllByRecursion}
 use Rattle.std.specs.declared.alloc.Global.{Global}
 use Rattle.kp_kore.specs.Syntax.{Text}
@@ -8,6 +8,8 @@ use Rattle.kp_kore.specs.Parts.{SortedName}
 use Rattle.kp_kore.specs.Signature.{KoreSignature}
 use Rattle.kp_kore.specs.Rules.{Rewrite, RuleBody, rewrite}
 use Rattle.kp_symbolic.specs.Solving.{negated}
+use Rattle.kp_symbolic.specs.States.{SymbolicState}
+use Rattle.kp_solving.specs.Further.{constrained}
 use Rattle.kp_symbolic.specs.Terms.{Replaced}
 use Rattle.kp_symbolic.specs.WellFormed.{AreWellPlaced}
 use Rattle.kp_rules.specs.Sides.{AreSidesOf}
@@ -23,6 +25,7 @@ use Rattle.kp_unify.specs.declared.part.Part.{Part}
 use Rattle.kp_unify.specs.declared.part.Setting.{Setting}
 use Rattle.kp_step.specs.ReadyParts.{IsReadyPart, narrowed_by}
 use Rattle.kp_step.specs.Silent.{IsExcluded}
+use Rattle.kp_step.specs.Opposites.{plain_state, IsNotNone}
 use Rattle.kp_step.specs.Firings.{numbered, clauses_of_firing, IsFiring, IsFired}
 use Rattle.kp_step.specs.declared.firing.Firing.{Firing}
 
@@ -52,9 +55,14 @@ FiresOnPart setting part sides result = WhereReady setting part sides (λ used m
 abbrev pub AreExcluded : KoreSignature → List Text → RuleBody → StatePart → Vec Part Global → Type 0
 AreExcluded g used body p parts = IsExcluded g used body p (numbered parts.items)
 
--- where it is told, the rule that fires so on some part fires on none of its instances
+-- the part where it fires, by the plain clauses of the part that it meets
+abbrev pub plain_of_firing : KoreSignature → Firing → SymbolicState
+plain_of_firing g f = constrained (plain_state g (part_view f.part).state) (clauses_of_firing f)
+
+-- where it is told, the rule that fires so on some part fires on none of its instances; where it isn't, a right verdict doesn't say so
 abbrev pub TellsNowhere : {E : Type 0} → KoreSignature → Firing → Result Bool E → Type 0
-TellsNowhere g f result = (used : List Text) (body : RuleBody) (p : StatePart) → IsFiring g used body p f → IfOk result (λ b. IsTrue b → FiresNowhere g body p)
+TellsNowhere g f result =
+    (used : List Text) (body : RuleBody) (p : StatePart) → IsFiring g used body p f → IfOk result (λ b. (IsTrue b → FiresNowhere g body p) × (b ≡ false → IsNotNone g (plain_of_firing g f)))
 
 -- with the rest, they are the parts where a rule doesn't fire, when this one is behind them or falls away
 abbrev pub AddsExcluded : {A E : Type 0} → KoreSignature → Vec Part Global → Part → Result A E → Vec Part Global → Type 0

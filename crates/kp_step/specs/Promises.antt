@@ -1,13 +1,13 @@
 -- What the calls promise that make a step, by name.
 -- Source: this project.
-use Rattle.std.specs.Prelude.{◌≡◌, ◌+◌, ◌∷◌, ◌++◌, [], ℕ, ⊤, Bool, IsTrue, List, Vec, Option, Some, None, Result, IfOk, MatchOption, map}
+use Rattle.std.specs.Prelude.{◌≡◌, ◌+◌, ◌∷◌, ◌++◌, [], ℕ, ⊤, ◌⊎◌, Bool, false, IsTrue, List, Vec, Option, Some, None, Result, IfOk, MatchOption, map}
 use Rattle.std.specs.List.{AllByRecursion, AllZip}
 use Rattle.std.specs.declared.alloc.Global.{Global}
 use Rattle.kp_kore.specs.Syntax.{Text, KoreSort}
 use Rattle.kp_kore.specs.Parts.{SortedName}
 use Rattle.kp_kore.specs.Signature.{KoreSignature}
 use Rattle.kp_kore.specs.Rules.{Rewrite, rewrite, RewriteRule}
-use Rattle.kp_kore.specs.Steps.{Fires, IsUnknown, AnyByRecursion}
+use Rattle.kp_kore.specs.Steps.{Fires, IsUnknown}
 use Rattle.kp_kore.specs.Theory.{Theory}
 use Rattle.kp_kore.specs.View.{view}
 use Rattle.kp_heads.specs.Heads.{HasValue}
@@ -23,13 +23,15 @@ use Rattle.kp_rules.specs.VerifiedSides.{AreVerifiedSides}
 use Rattle.kp_rules.specs.Skeletons.{Form, skeleton_view}
 use Rattle.kp_symbolic.specs.Shown.{sum_over}
 use Rattle.kp_limits.specs.Compared.{numeric_places}
-use Rattle.kp_step.specs.Counted.{AreLeftsOf, IsMost}
+use Rattle.kp_limits.specs.Wide.{first_wide}
+use Rattle.kp_step.specs.Counted.{AreLeftsOf, IsMost, these_rules, IsComparedWithin}
 use Rattle.kp_step.specs.Comes.{IsFormOf}
 use Rattle.kp_rules.specs.declared.rule.Rewrite as code
 use Rattle.kp_rules.specs.declared.sides.ReadSides.{ReadSides}
 use Rattle.kp_rules.specs.declared.skeleton.Skeleton.{Skeleton}
 use Rattle.kp_rule_sets.specs.declared.rule_set.RuleSet.{RuleSet}
 use Rattle.kp_case_laws.specs.Parts.{StatePart, whole, with_clauses, OfEachInstance, IsTold}
+use Rattle.kp_case_laws.specs.Firing.{HasNoInstance}
 use Rattle.kp_case_laws.specs.Turns.{TakesFrom}
 use Rattle.kp_unify.specs.Narrowed.{NumberedPart}
 use Rattle.kp_unify.specs.Views.{signature_of, part_view, numbered_view, met_view, IsSetting}
@@ -40,11 +42,11 @@ use Rattle.kp_unify.specs.declared.part.Setting.{Setting}
 use Rattle.kp_step.specs.Conditions.{condition_clauses}
 use Rattle.kp_step.specs.ReadyParts.{IsReadyPart, HasInstance}
 use Rattle.kp_step.specs.declared.firing.Firing.{Firing}
-use Rattle.kp_step.specs.Rules.{Steps, IsReadBy, IsReadAt, IsForeignAt, IsStepFrom}
-use Rattle.kp_step.specs.Places.{IsReadAs, IsPriorityAt}
+use Rattle.kp_step.specs.Rules.{Steps, IsReadBy, IsReadAt, IsForeignAt, IsStepFrom, IsSearchFrom}
+use Rattle.kp_step.specs.Places.{IsAt, IsReadAs, IsPriorityAt}
 use Rattle.kp_step.specs.Meets.{MeetsRule, AllMeet}
 use Rattle.kp_step.specs.Ready.{IsReadyState, IsWholeReady}
-use Rattle.kp_step.specs.Limits.{Passes, PassesNone, IsPassed}
+use Rattle.kp_step.specs.Limits.{PassesNone, Passes, IsFirstPassed, HasNoWideCondition, IsPassed}
 use Rattle.kp_step.specs.Remainders.{IsPartIn, AreUntaken, IsNumberOf, OneTakesAll}
 use Rattle.kp_step.specs.Found.{PlacedTurn, IsRuleAt, IsMetIn, IsTurnAt, AreAllFound}
 use Rattle.kp_step.specs.Tries.{PlacedFiring, narrowed_of, IsLeftAt, IsFiringOf, CanMeet, AreTurnParts, AreRemaining}
@@ -62,6 +64,8 @@ use Rattle.kp_step.specs.declared.outcome.StepOutcome.{StepOutcome}
 use Rattle.kp_step.specs.declared.right_side.Following.{Following}
 use Rattle.kp_step.specs.declared.turns.Turn.{Turn}
 use Rattle.kp_step.specs.declared.turns.Tried.{Tried}
+use Rattle.kp_step.specs.declared.turns.Tried.TheVariants as tried
+use Rattle.kp_step.specs.declared.outcome.StepOutcome.TheVariants as outcome
 
 -- ---- limits and instances
 
@@ -69,13 +73,32 @@ use Rattle.kp_step.specs.declared.turns.Tried.{Tried}
 abbrev pub TellsLimit : KoreSignature → SymbolicState → Option StepLimit → Type 0
 TellsLimit g s o = MatchOption o (PassesNone g s) (λ l. Passes g s (limit_view l))
 
--- a limit that one of the states passes, or none of them passes one
+-- the limit that the first of the states passes that passes one, or none of them does
 abbrev pub TellsLimitAmong : KoreSignature → List SymbolicState → Option StepLimit → Type 0
-TellsLimitAmong g ss o = MatchOption o (AllByRecursion (λ x. PassesNone g x) ss) (λ l. AnyByRecursion (λ x. Passes g x (limit_view l)) ss)
+TellsLimitAmong g ss o = MatchOption o (AllByRecursion (λ x. PassesNone g x) ss) (λ l. IsFirstPassed g ss (limit_view l))
 
--- those of the parts that have an instance, or what is shown of one, where a rule can be tried on each
-abbrev pub DecidesParts : KoreSignature → SymbolicState → ℕ → List NumberedPart → Decided → Type 0
-DecidesParts g s most parts d = (used : List Text) → AllByRecursion (IsReadyPart g used) parts → AreDecided g s most parts d
+-- the left side, if there is one, is that of the rule, and the turns are those of these rules
+abbrev pub AreAsked : Theory → Setting → RuleSet → List Turn → Option Form → Option RewriteRule → List RewriteRule → Type 0
+AreAsked t setting rules turns (Some left) (Some r) found = Steps t setting rules × IsFormOf t.signature r.body left × AllZip (IsRuleAt t) (map turn_view turns) found
+AreAsked t setting rules turns None None found = Steps t setting rules × AllZip (IsRuleAt t) (map turn_view turns) found
+AreAsked t setting rules turns left r found = ⊥
+
+-- what may be compared of the state, where the rules of these turns take from what is left to the rule, or to none
+abbrev pub MostAsked : {E : Type 0} → Setting → RuleSet → List Turn → Option Form → SymbolicState → Result ℕ E → Type 0
+MostAsked setting rules turns left s result =
+    (t : Theory) (o : Option RewriteRule) (found : List RewriteRule) → AreAsked t setting rules turns left o found → IfOk result (IsMost t.signature s (these_rules o found))
+
+-- of the parts of a state that rules leave to the rule, or to none: those that have an instance, or what is shown of one, where a rule
+-- can be tried on each
+abbrev pub DecidesParts : {E : Type 0} → Setting → RuleSet → List Turn → Option Form → SymbolicState → List NumberedPart → Result Decided E → Type 0
+DecidesParts setting rules turns left s parts result =
+    (t : Theory) (used : List Text) (o : Option RewriteRule) (found : List RewriteRule) → let g = signature_of setting in AreAsked t setting rules turns left o found → AllByRecursion (IsReadyPart g used) parts →
+    IfOk result (AreDecided g s (these_rules o found) parts)
+
+-- with a weight, what is told of a part compares no more whole-number variables than stand in the state and in the left sides of these rules
+abbrev pub CountsWhereWeighed : {E : Type 0} → Setting → RuleSet → List Turn → Option Form → SymbolicState → SymbolicState → Result UndecidedClauses E → Type 0
+CountsWhereWeighed setting rules turns left s p result =
+    (t : Theory) (o : Option RewriteRule) (found : List RewriteRule) → AreAsked t setting rules turns left o found → IfOk result (λ c. IsComparedWithin (signature_of setting) s p (these_rules o found) c.over)
 
 -- the count with the places in the left side of the turn's rule at which a whole-number variable stands, or a number
 abbrev pub CountsTurn : {E : Type 0} → Setting → RuleSet → Turn → ℕ → Result ℕ E → Type 0
@@ -173,20 +196,25 @@ WhereFiringIs setting p k f Told =
     (t : Theory) (used : List Text) (s : SymbolicState) (place : ℕ) →
     signature_of setting ≡ t.signature → IsSetting used setting → IsWholeReady t.signature used s (numbered_view p) → IsLeftAt t place k → IsFiringOf t used s place (firing_model f) → Told t s place
 
--- where it is told, the rule meets the state, and it isn't known that its left side stands for no instance
+-- where it is told, the rule meets the state, and it isn't known that its left side stands for no instance; where it isn't, it is known
 abbrev pub TellsMayMeet : {E : Type 0} → Setting → Part → Skeleton → Firing → Result Bool E → Type 0
-TellsMayMeet setting p k f result = WhereFiringIs setting p k f (λ t s place. IfOk result (λ b. IsTrue b → CanMeet t s place (firing_model f)))
+TellsMayMeet setting p k f result = WhereFiringIs setting p k f (λ t s place. let m = firing_model f in
+    IfOk result (λ b. (IsTrue b → CanMeet t s place m) × (b ≡ false → HasNoInstance t.signature (with_clauses m.part.part m.equations))))
 
--- a limit that is told is passed, where the narrowed state is that on which the rule fires
+-- what no number of the condition is told of: there is none that leaves 128 bits, or the left side stands for no instance
+abbrev pub TellsNoNumber : KoreSignature → PlacedFiring → Type 0
+TellsNoNumber g f = (first_wide g (narrowed_of f).part.state ≡ None) ⊎ HasNoInstance g (with_clauses f.part.part f.equations)
+
+-- a limit that is told is passed, and none is where there is no such number, where the narrowed state is that on which the rule fires
 abbrev pub TellsWideCondition : {E : Type 0} → Setting → Part → Skeleton → Firing → State → Result (Option StepLimit) E → Type 0
 TellsWideCondition setting p k f narrowed result =
-    WhereFiringIs setting p k f (λ t s place. state_view narrowed ≡ (narrowed_of (firing_model f)).part.state → IfOk result (λ o. MatchOption o ⊤ (λ l. IsPassed t s (limit_view l))))
+    WhereFiringIs setting p k f (λ t s place. state_view narrowed ≡ (narrowed_of (firing_model f)).part.state → PassesNone t.signature s → IfOk result (λ o. MatchOption o (TellsNoNumber t.signature (firing_model f)) (λ l. IsPassed t s (limit_view l))))
 
 -- behind these turns, of the rules that are found so far, which meet the state
 abbrev pub BehindTurns : Setting → RuleSet → List Turn → Part → (Theory → List Text → SymbolicState → List RewriteRule → Type 0) → Type 0
 BehindTurns setting rules turns p Told =
     (t : Theory) (used : List Text) (s : SymbolicState) (found : List RewriteRule) →
-    IsStepFrom t used s setting rules (numbered_view p) → AllZip (IsRuleAt t) (map turn_view turns) found → AllMeet t.signature s found → Told t used s found
+    IsSearchFrom t used s setting rules (numbered_view p) → AllZip (IsRuleAt t) (map turn_view turns) found → AllMeet t.signature s found → Told t used s found
 
 -- the parts of the turn of the rule of this number, of the part where it fires
 abbrev pub IsTurnToldBy : {E : Type 0} → ℕ → Part → Result Decided E → Theory → List Text → SymbolicState → List RewriteRule → ℕ → PlacedFiring → Type 0
@@ -220,10 +248,16 @@ TriesSides setting rules turns p place sides result =
     BehindTurns setting rules turns p (λ t used s found. (m : Rewrite) → IsReadAs t place m → AreSidesOf t.signature m sides → AreVerifiedSides t.signature m →
     IfOk result (TellsTurn t used s (map turn_view turns) place))
 
+-- of a rule that is tried: unless the step ends with a limit, no number of its condition is wide
+abbrev pub IsBehindNumber : Theory → SymbolicState → ℕ → Tried → Type 0
+IsBehindNumber t s place (tried.Ended (outcome.Limited l)) = ⊤
+IsBehindNumber t s place x = (r : RewriteRule) → IsAt t place r → HasNoWideCondition t s r
+
 -- the same where the place's rule has this left side and fires so
 abbrev pub TriesFiring : {E : Type 0} → Setting → RuleSet → List Turn → Part → ℕ → Skeleton → Firing → Result Tried E → Type 0
 TriesFiring setting rules turns p place k f result =
-    BehindTurns setting rules turns p (λ t used s found. IsLeftAt t place k → IsFiringOf t used s place (firing_model f) → IfOk result (TellsTurn t used s (map turn_view turns) place))
+    BehindTurns setting rules turns p (λ t used s found. IsLeftAt t place k → IsFiringOf t used s place (firing_model f) →
+    IfOk result (λ x. TellsTurn t used s (map turn_view turns) place x × IsBehindNumber t s place x))
 
 -- ---- what follows
 
@@ -300,6 +334,10 @@ abbrev pub StepsFromUndecided : {E : Type 0} → Setting → SymbolicState → U
 StepsFromUndecided setting s told result =
     (t : Theory) (used : List Text) → signature_of setting ≡ t.signature → IsTold t.signature (whole s) → IsRightUndecided t.signature s told → IfOk result (IsRightStep t used s)
 
+-- the same, where no foreign rule might rewrite an instance
+abbrev pub OfEachSearch : Setting → RuleSet → Part → (Theory → List Text → SymbolicState → Type 0) → Type 0
+OfEachSearch setting rules p Told = (t : Theory) (used : List Text) (s : SymbolicState) → IsSearchFrom t used s setting rules (numbered_view p) → Told t used s
+
 -- each step from the whole of a state is right, where that has an instance
 abbrev pub StepsByRules : {E : Type 0} → Setting → RuleSet → Part → Result StepOutcome E → Type 0
 StepsByRules setting rules p result = OfEachStep setting rules p (λ t used s. HasInstance t.signature (whole s) → IfOk result (IsRightStep t used s))
@@ -307,19 +345,18 @@ StepsByRules setting rules p result = OfEachStep setting rules p (λ t used s. H
 -- the same, where no foreign rule might rewrite an instance
 abbrev pub StepsBySearch : {E : Type 0} → Setting → RuleSet → Part → Result StepOutcome E → Type 0
 StepsBySearch setting rules p result =
-    OfEachStep setting rules p (λ t used s. HasInstance t.signature (whole s) → OfEachInstance t.signature (whole s) (λ w c. ¬ IsUnknown t c) → IfOk result (IsRightStep t used s))
+    OfEachSearch setting rules p (λ t used s. HasInstance t.signature (whole s) → IfOk result (IsRightStep t used s))
 
 -- the same, where these are the turns of all rules
 abbrev pub StepsByTurns : {E : Type 0} → Setting → RuleSet → Part → List Turn → Result StepOutcome E → Type 0
 StepsByTurns setting rules p turns result =
-    OfEachStep setting rules p (λ t used s. HasInstance t.signature (whole s) → OfEachInstance t.signature (whole s) (λ w c. ¬ IsUnknown t c) →
-    AreAllFound t used (whole s) (map turn_view turns) → IfOk result (IsRightStep t used s))
+    OfEachSearch setting rules p (λ t used s. HasInstance t.signature (whole s) → AreAllFound t used (whole s) (map turn_view turns) → IfOk result (IsRightStep t used s))
 
 -- the same, where these are the parts that remain
 abbrev pub StepsByCases : {E : Type 0} → Setting → RuleSet → List Turn → Vec Part Global → Result StepOutcome E → Type 0
 StepsByCases setting rules turns remainder result =
     (t : Theory) (used : List Text) (s : SymbolicState) (found : List RewriteRule) →
-    Steps t setting rules → IsSetting used setting → HasInstance t.signature (whole s) → OfEachInstance t.signature (whole s) (λ w c. ¬ IsUnknown t c) →
+    Steps t setting rules → IsSetting used setting → HasInstance t.signature (whole s) → PassesNone t.signature s → OfEachInstance t.signature (whole s) (λ w c. ¬ IsUnknown t c) →
     AreAllFound t used (whole s) (map turn_view turns) → AllZip (IsRuleAt t) (map turn_view turns) found →
     AreRemaining t used s found (numbered_views remainder.items) → IfOk result (IsRightStep t used s)
 

@@ -9,6 +9,7 @@ use Rattle.kp_kore.specs.Sorted.{IsSorted}
 use Rattle.kp_kore.specs.Rules.{Rewrite, rewrite, RewriteRule, ForeignLeft, foreign_rule}
 use Rattle.kp_kore.specs.Foreign.{IsSkeletonInstance}
 use Rattle.kp_kore.specs.Theory.{Theory}
+use Rattle.kp_kore.specs.Steps.{IsUnknown}
 use Rattle.kp_symbolic.specs.States.{SymbolicState}
 use Rattle.kp_rules.specs.Sides.{AreSidesOf}
 use Rattle.kp_rules.specs.VerifiedSides.{AreVerifiedSides}
@@ -17,12 +18,14 @@ use Rattle.kp_rules.specs.declared.rule.Rewrite as code
 use Rattle.kp_rules.specs.declared.skeleton.Skeleton.{Skeleton}
 use Rattle.kp_rule_sets.specs.RuleSets.{RunsAs}
 use Rattle.kp_rule_sets.specs.declared.rule_set.RuleSet.{RuleSet}
+use Rattle.kp_case_laws.specs.Parts.{whole, OfEachInstance}
 use Rattle.kp_case_laws.specs.NextStates.{HaveOwnIds}
 use Rattle.kp_unify.specs.Narrowed.{NumberedPart}
 use Rattle.kp_unify.specs.Views.{signature_of, IsSetting}
 use Rattle.kp_unify.specs.declared.part.Setting.{Setting}
 use Rattle.kp_step.specs.Places.{IsAt}
 use Rattle.kp_step.specs.Ready.{IsWholeReady}
+use Rattle.kp_step.specs.Limits.{PassesNone}
 
 -- the rule set is the theory, over the setting's signature; no two rules have one id
 pub record Steps (t : Theory) (k : Setting) (rules : RuleSet) : Type 0 where
@@ -61,8 +64,17 @@ abbrev pub TellsSkeleton : Theory → ℕ → Option Skeleton → Type 0
 TellsSkeleton t place (Some k) = IsForeignAt t place k
 TellsSkeleton t place None = (r : RewriteRule) (l : ForeignLeft) → IsAt t place r → ¬ (r.body ≡ foreign_rule l)
 
--- a step of the theory's from the whole of a state, whose names and those met before are in use
+-- a step of the theory's from the whole of a state, whose names and those met before are in use; it passes no limit
 pub record IsStepFrom (t : Theory) (used : List Text) (s : SymbolicState) (k : Setting) (rules : RuleSet) (q : NumberedPart) : Type 0 where
   pub steps : Steps t k rules
   pub setting : IsSetting used k
+  pub whole : IsWholeReady t.signature used s q
+  pub limits : PassesNone t.signature s
+
+-- the same, where no foreign rule might rewrite an instance
+pub record IsSearchFrom (t : Theory) (used : List Text) (s : SymbolicState) (k : Setting) (rules : RuleSet) (q : NumberedPart) : Type 0 where
+  pub steps : Steps t k rules
+  pub setting : IsSetting used k
+  pub limits : PassesNone t.signature s
+  pub known : OfEachInstance t.signature (whole s) (λ w c. ¬ IsUnknown t c)
   pub whole : IsWholeReady t.signature used s q

@@ -1,6 +1,7 @@
 // How many whole-number variables what is shown may compare, and whether it compares no more.
 ghost use Rattle.std.specs.Prelude.{◌≡◌, ◌+◌, ◌≤◌, ◌↔◌, ◌∷◌, [], List, map, IfOk, IsTrue, if◌then◌else◌};
 ghost use Rattle.std.specs.List.{list_any};
+ghost use Rattle.std.specs.Option.{option_map};
 ghost use Rattle.kp_kore.specs.Signature.{has_only_numbers};
 ghost use Rattle.kp_signature.specs.Pairs.{subsort_view};
 ghost use Rattle.kp_signature.specs.View.{signature_view};
@@ -11,7 +12,7 @@ ghost use Rattle.kp_limits.specs.Compared.{compared_count, numeric_places};
 ghost use Rattle.kp_unify.specs.Views.{signature_of};
 ghost use Rattle.kp_step.specs.Counted as model;
 ghost use Rattle.kp_step.specs.Counted.{IsCounted};
-ghost use Rattle.kp_step.specs.Promises.{CountsTurn, CountsTurns, MostOfTurns, MostWithLeft};
+ghost use Rattle.kp_step.specs.Promises.{CountsTurn, CountsTurns, MostOfTurns, MostWithLeft, MostAsked, CountsWhereWeighed};
 
 use crate::part_answers::UndecidedClauses;
 use crate::rules::read_at;
@@ -103,7 +104,7 @@ fn most_from(
 }
 
 /// The whole-number variables of the state, and those of the places in the left sides of these turns' rules.
-pub fn most_left(
+fn most_left(
     alloc: Global,
     setting: Setting<'_>,
     rules: &RuleSet,
@@ -117,7 +118,7 @@ pub fn most_left(
 }
 
 /// The same with the places in this left side.
-pub fn most_with(
+fn most_with(
     alloc: Global,
     setting: Setting<'_>,
     rules: &RuleSet,
@@ -130,6 +131,23 @@ pub fn most_with(
     let own = places_of(setting.language.signature, left)?;
     let places = with_turns(setting, rules, turns, own)?;
     most_from(alloc, setting, state, places)
+}
+
+/// The same with the places in this left side, if there is one.
+fn most_asked(
+    alloc: Global,
+    setting: Setting<'_>,
+    rules: &RuleSet,
+    turns: &[Turn],
+    left: Option<&Skeleton>,
+    state: &State,
+) -> Result<usize, AllocError>
+    ensures { MostAsked setting.entry rules.now turns.now (option_map (λ l. skeleton_view l.now) left.entry) (state_view state.now) result }
+{
+    match left {
+        Some(left) => most_with(alloc, setting, rules, turns, state, left),
+        None => most_left(alloc, setting, rules, turns, state),
+    }
 }
 
 /// The whole-number variables of the state, and those of the places in this left side.
@@ -183,4 +201,26 @@ pub fn told_within(
         return Ok(told);
     }
     Err(AllocError)
+}
+
+/// The same of a part that these turns' rules leave to a rule of this left side, or to none. The variables are counted only where a weight
+/// is told.
+pub fn told_where_weighed(
+    alloc: Global,
+    setting: Setting<'_>,
+    rules: &RuleSet,
+    turns: &[Turn],
+    left: Option<&Skeleton>,
+    state: &State,
+    part: &State,
+    told: UndecidedClauses,
+) -> Result<UndecidedClauses, AllocError>
+    ensures same { IfOk result (λ o. o ≡ told) }
+    ensures counted { CountsWhereWeighed setting.entry rules.now turns.now (option_map (λ l. skeleton_view l.now) left.entry) (state_view state.now) (state_view part.now) result }
+{
+    if told.over.is_none() {
+        return Ok(told);
+    }
+    let most = most_asked(alloc, setting, rules, turns, left, state)?;
+    told_within(alloc, setting, most, part, told)
 }

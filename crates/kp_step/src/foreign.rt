@@ -1,6 +1,5 @@
 // Foreign rules that may rewrite an instance of a state.
-ghost use Rattle.std.specs.Prelude.{◌≡◌, IfOk, List, [], MatchOption};
-ghost use Rattle.std.specs.List.{AllByRecursion, Contains};
+ghost use Rattle.std.specs.Prelude.{◌≡◌, IfOk, List, [], ◌∷◌, MatchOption};
 ghost use Rattle.kp_kore.specs.Syntax.{Text};
 ghost use Rattle.kp_kore.specs.Theory.{Theory};
 ghost use Rattle.kp_symbolic.specs.States.{SymbolicState};
@@ -8,7 +7,8 @@ ghost use Rattle.kp_symbolic_laws.specs.Runs.{HasOneSortEach};
 ghost use Rattle.kp_rules.specs.Skeletons.{skeleton_view};
 ghost use Rattle.kp_case_laws.specs.Courses.{form_variables};
 ghost use Rattle.kp_unify.specs.Views.{signature_of, HasItsTable};
-ghost use Rattle.kp_step.specs.Answers.{TellsForeign, TellsKnown, IsUndecidedAt};
+ghost use Rattle.kp_step.specs.Answers.{TellsForeign, TellsKnown, TellsFirst};
+ghost use Rattle.kp_step.specs.declared.foreign.UndecidedRule.{UndecidedRule};
 ghost use Rattle.kp_step.specs.RightSteps.{IsRightStep};
 ghost use Rattle.kp_step.specs.Promises.{TellsMet, TellsSkeletonMeets, OfEachStep};
 
@@ -144,7 +144,7 @@ pub struct UndecidedRule {
 
 /// The first of these, if there is one.
 fn first_undecided(opened: Vec<UndecidedRule>) -> Option<UndecidedRule>
-    ensures { MatchOption result (opened.items ≡ []) (Contains opened.items) }
+    ensures { MatchOption result (opened.items ≡ []) (λ o. (rest : List UndecidedRule) × (opened.items ≡ o ∷ rest)) }
 {
     for open in opened {
         return Some(open);
@@ -154,7 +154,7 @@ fn first_undecided(opened: Vec<UndecidedRule>) -> Option<UndecidedRule>
 
 /// Of the foreign rules none of which is known to rewrite an instance, the first for which that isn't decided.
 fn undecided_rule(opened: Vec<UndecidedRule>) -> Option<StepOutcome>
-    ensures { let all = opened.items in (t : Theory) (used : List Text) (s : SymbolicState) → AllByRecursion (IsUndecidedAt t s) all → MatchOption result (all ≡ []) (IsRightStep t used s) }
+    ensures { let all = opened.items in (t : Theory) (used : List Text) (s : SymbolicState) → TellsFirst t s all → MatchOption result (all ≡ []) (IsRightStep t used s) }
 {
     match first_undecided(opened) {
         Some(UndecidedRule { told, place }) => {

@@ -1,10 +1,10 @@
 // Parts of a state, with further clauses and without those that aren't decided.
-ghost use Rattle.std.specs.Prelude.{◌≡◌, IfOk, IsTrue, map};
+ghost use Rattle.std.specs.Prelude.{◌≡◌, IfOk, map};
 ghost use Rattle.kp_kore.specs.Signature.{KoreSignature};
 ghost use Rattle.kp_signature.specs.View.{signature_view};
 ghost use Rattle.kp_heads.specs.Made.{IsHeadTableOf};
 ghost use Rattle.kp_symbolic.specs.Plain as model;
-ghost use Rattle.kp_symbolic.specs.States.{SymbolicState, CanBeTrue};
+ghost use Rattle.kp_symbolic.specs.States.{SymbolicState};
 ghost use Rattle.kp_symbolic.specs.View as terms;
 ghost use Rattle.kp_symbolic.specs.View.{clause_view, literal_view, state_view};
 ghost use Rattle.kp_literals.specs.Readings.{read_view, clauses_view};
@@ -12,7 +12,7 @@ ghost use Rattle.kp_satisfiability.specs.Answers.{IsRightAnswer};
 ghost use Rattle.kp_satisfiability.specs.Read.{HasSortedClauses};
 ghost use Rattle.kp_case_laws.specs.Parts.{with_clauses};
 ghost use Rattle.kp_unify.specs.Views.{part_view};
-ghost use Rattle.kp_step.specs.Opposites.{plain_state};
+ghost use Rattle.kp_step.specs.Opposites.{plain_state, TellsNone};
 
 use kp_heads::HeadTable;
 use kp_literals::ReadLiteral;
@@ -42,15 +42,17 @@ pub fn constrained(alloc: Global, part: &Part, clauses: &[Clause]) -> Result<Par
 
 /// Whether the verdict is that no values of the variables at hand make the clauses true; it isn't where they aren't decided.
 fn is_none(verdict: &Verdict) -> bool
-    ensures { (g : KoreSignature) (s : SymbolicState) → IsRightAnswer g s verdict.now → IsTrue result → ¬ CanBeTrue g s.variables s.clauses }
+    ensures { (g : KoreSignature) (s : SymbolicState) → IsRightAnswer g s verdict.now → TellsNone g s result }
 {
     match verdict {
         Verdict::NoValuation => true,
-        Verdict::SomeValuation | Verdict::Undecided { .. } => false,
+        Verdict::SomeValuation => false,
+        Verdict::Undecided { .. } => false,
     }
 }
 
-/// Whether it is known that no values of the variables at hand make the state's clauses true.
+/// Whether it is known that no values of the variables at hand make the state's clauses true: only where a right verdict says another thing
+/// it isn't.
 pub fn is_empty(
     alloc: Global,
     signature: &Signature,
@@ -58,7 +60,7 @@ pub fn is_empty(
     state: &State,
 ) -> Result<bool, AllocError>
     requires { IsHeadTableOf (signature_view signature.now) table.now }
-    ensures { let g = signature_view signature.now in let s = state_view state.now in IfOk result (λ b. HasSortedClauses g s → IsTrue b → ¬ CanBeTrue g s.variables s.clauses) }
+    ensures { let g = signature_view signature.now in let s = state_view state.now in IfOk result (λ b. HasSortedClauses g s → TellsNone g s b) }
 {
     let verdict = decide(alloc, signature, table, state)?;
     Ok(is_none(&verdict))

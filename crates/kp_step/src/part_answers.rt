@@ -1,17 +1,22 @@
 // Whether parts have instances, and what is shown where that isn't decided.
 ghost use Rattle.std.specs.Prelude.{IfOk};
+ghost use Rattle.std.specs.Option.{option_map};
 ghost use Rattle.kp_symbolic.specs.States.{SymbolicState};
 ghost use Rattle.kp_symbolic.specs.View.{state_view};
+ghost use Rattle.kp_rules.specs.Skeletons.{skeleton_view};
 ghost use Rattle.kp_satisfiability.specs.Read.{HasSortedClauses};
 ghost use Rattle.kp_unify.specs.Views.{signature_of, HasItsTable};
 ghost use Rattle.kp_step.specs.Views.{numbered_views};
 ghost use Rattle.kp_step.specs.Answers.{IsRightUndecided, ShowsOf, IsRightAnswerOf, IsRightAnswerAlone};
 ghost use Rattle.kp_step.specs.Promises.{DecidesParts};
 
-use crate::counted_variables::told_within;
+use crate::counted_variables::told_where_weighed;
+use crate::turns::Turn;
 use kp_limits::Weighed;
 use kp_literals::clauses::read_clauses;
 use kp_literals::plain_clauses::rough_clauses;
+use kp_rule_sets::RuleSet;
+use kp_rules::Skeleton;
 use kp_satisfiability::{Verdict, decide};
 use kp_symbolic::{Clause, State};
 use kp_unify::{Part, Setting};
@@ -101,17 +106,20 @@ pub fn answer_alone(
     }
 }
 
-/// The parts of these that have an instance; what is left open of the first of which that isn't decided. With a weight, that compares no
-/// more whole-number variables than so many.
+/// Of these parts of a state, which the rules of these turns leave to a rule of this left side, or to none: those that have an instance;
+/// what is left open of the first of which that isn't decided. With a weight, that compares no more whole-number variables than stand in
+/// the state and in the rules' left sides.
 pub fn decided_parts(
     alloc: Global,
     setting: Setting<'_>,
+    rules: &RuleSet,
+    turns: &[Turn],
+    left: Option<&Skeleton>,
     state: &State,
-    most: usize,
     parts: Vec<Part>,
 ) -> Result<Decided, AllocError>
     requires { HasItsTable setting }
-    ensures { IfOk result (DecidesParts (signature_of setting.entry) (state_view state.now) most (numbered_views parts.items)) }
+    ensures { DecidesParts setting.entry rules.now turns.now (option_map (λ l. skeleton_view l.now) left.entry) (state_view state.now) (numbered_views parts.items) result }
 {
     let mut found = Vec::new(alloc);
     for part in parts {
@@ -119,7 +127,16 @@ pub fn decided_parts(
             PartAnswer::Instance => found.push(part)?,
             PartAnswer::Nothing => {}
             PartAnswer::UndecidedClauses { told } => {
-                let told = told_within(alloc, setting, most, &part.state, told)?;
+                let told = told_where_weighed(
+                    alloc,
+                    setting,
+                    rules,
+                    turns,
+                    left,
+                    state,
+                    &part.state,
+                    told,
+                )?;
                 return Ok(Decided::UndecidedClauses { told });
             }
         }

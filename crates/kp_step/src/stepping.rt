@@ -1,9 +1,11 @@
 // One symbolic step.
+ghost use Rattle.std.specs.Prelude.{◌≡◌, None};
 ghost use Rattle.kp_symbolic.specs.View.{state_view};
+ghost use Rattle.kp_limits.specs.Wide.{first_wide};
 ghost use Rattle.kp_step.specs.Promises.{StepsFrom, StepsFromInstance, StepsFromUndecided, StepsByRules, StepsBySearch, StepsByTurns, StepsByCases, LeavesRemainder};
-ghost use Rattle.kp_unify.specs.Views.{HasItsTable};
+ghost use Rattle.kp_unify.specs.Views.{signature_of, HasItsTable};
 
-use crate::counted_variables::{most_alone, most_left, told_within};
+use crate::counted_variables::{most_alone, told_within};
 use crate::foreign::foreign;
 use crate::limits::{first_limit, limit_of, wide_in};
 use crate::next_states::{all_settled, nexts_of};
@@ -51,8 +53,7 @@ fn remainder_of(
     let mut parts = Vec::new(alloc);
     parts.push(part.share(alloc)?)?;
     let left = left_after(alloc, setting, rules, turns, None, parts)?;
-    let most = most_left(alloc, setting, rules, turns, &part.state)?;
-    Ok(decided_parts(alloc, setting, &part.state, most, left)?)
+    Ok(decided_parts(alloc, setting, rules, turns, None, &part.state, left)?)
 }
 
 /// The step by the rules that have their turn.
@@ -121,14 +122,14 @@ fn from_state(
     }
 }
 
-/// What is left open of a state alone.
+/// What is left open of a state alone, where none of its numbers leaves 128 bits.
 fn open_alone(
     alloc: Global,
     setting: Setting<'_>,
     state: &State,
     told: UndecidedClauses,
 ) -> Result<StepOutcome, AllocError>
-    ensures { StepsFromUndecided setting.entry (state_view state.now) told result }
+    ensures { first_wide (signature_of setting.entry) (state_view state.now) ≡ None → StepsFromUndecided setting.entry (state_view state.now) told result }
 {
     let most = most_alone(alloc, setting, state)?;
     let told = told_within(alloc, setting, most, state, told)?;

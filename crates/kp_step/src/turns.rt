@@ -3,9 +3,8 @@ ghost use Rattle.std.specs.Prelude.{◌≡◌, IfOk};
 ghost use Rattle.kp_unify.specs.Views.{numbered_view, HasItsTable};
 ghost use Rattle.kp_step.specs.Tries.{narrowed_of};
 ghost use Rattle.kp_step.specs.Answers.{TellsTurns, firing_model};
-ghost use Rattle.kp_step.specs.Promises.{LeavesTo, TellsMayMeet, TellsWideCondition, TellsRemainingParts, TellsTurnParts, MakesTurn, TriesRule, TriesSides, TriesFiring, OfEachStep};
+ghost use Rattle.kp_step.specs.Promises.{LeavesTo, TellsMayMeet, TellsWideCondition, TellsRemainingParts, TellsTurnParts, MakesTurn, TriesRule, TriesSides, TriesFiring, OfEachSearch};
 
-use crate::counted_variables::most_with;
 use crate::left_variables::are_of_left;
 use crate::limits::wide_in;
 use crate::met_rules::answer_where_met;
@@ -46,7 +45,8 @@ pub enum Searched {
     Ended { outcome: StepOutcome },
 }
 
-/// Whether the rule meets the state, and it isn't known that its left side stands for no instance of the part that it meets.
+/// Whether the rule meets the state, and it isn't known that its left side stands for no instance of the part that it meets; where it
+/// doesn't, that is known.
 fn may_meet(
     alloc: Global,
     setting: Setting<'_>,
@@ -126,9 +126,16 @@ fn parts_left(
     requires { HasItsTable setting }
     ensures { TellsRemainingParts setting.entry rules.now turns.now whole.now left.now priority part result }
 {
-    let most = most_with(alloc, setting, rules, turns, &whole.state, left)?;
     let parts = left_to(alloc, setting, rules, turns, priority, part)?;
-    Ok(decided_parts(alloc, setting, &whole.state, most, parts)?)
+    Ok(decided_parts(
+        alloc,
+        setting,
+        rules,
+        turns,
+        Some(left),
+        &whole.state,
+        parts,
+    )?)
 }
 
 /// The same, where the rule's left side may meet none of the state's instances.
@@ -264,7 +271,7 @@ pub fn find_turns(
     whole: &Part,
 ) -> Result<Searched, CompileError>
     requires { HasItsTable setting }
-    ensures { OfEachStep setting.entry rules.now whole.now (λ t used s. IfOk result (TellsTurns t used s)) }
+    ensures { OfEachSearch setting.entry rules.now whole.now (λ t used s. IfOk result (TellsTurns t used s)) }
 {
     let mut turns = Vec::new(alloc);
     for place in rules.in_turn() {

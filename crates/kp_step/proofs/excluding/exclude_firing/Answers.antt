@@ -9,7 +9,7 @@ pub returns-then-branch : goal.returns-then-branch
 returns-then-branch c used body ready f =
     let g = signature_of c.args.setting.now in
     let q = numbered_view c.args.part.now in
-    let whole = untouched g used body q ready (c.in_ok-never_fires.ensures used body q.part f c.if-branch.true) in
+    let whole = untouched g used body q ready ((c.in_ok-never_fires.ensures used body q.part f).0 c.if-branch.true) in
     if_ok c.alone.result _ _ (λ ps same. subst (IsExcluded g used body q.part) (sym same) whole) c.alone.ensures
 
 pub returns : goal.returns

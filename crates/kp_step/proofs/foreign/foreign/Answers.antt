@@ -12,7 +12,7 @@ returns-in-Instance c t used s k =
     let i = c.loop-place.place-index in
     let place : ℕ = get_or places i 0 in
     let told : TellsForeign t s place answer.Instance = subst (TellsForeign t s place) c.in-Instance.is (c.in_ok-answer_at.ensures t used s k) in
-    asks_met t s c.args.rules.now places i place c.loop-place.opened.items k.steps.runs c.in_turn-place-items.ensures c.loop-place-test.true (get_or_default places i 0 place c.loop-place-test.true) told (c.loop-place.invariant t used s k)
+    asks_met t s c.args.rules.now places i place c.loop-place.opened.items k.steps.runs c.in_turn-place-items.ensures c.loop-place-test.true (get_or_default places i 0 place c.loop-place-test.true) k.limits told (c.loop-place.invariant t used s k)
 
 pub loop-place-preserved : goal.loop-place-preserved
 loop-place-preserved c t used s k =
@@ -35,4 +35,4 @@ returns c t used s k =
     let places = c.in_turn-place-items.result.now in
     let past : length places ≤ c.loop-place.place-index = omega (arith, c.loop-place-test.false) in
     let all = c.loop-place.invariant t used s k in
-    known_or_open t used s c.args.rules.now places c.loop-place.place-index c.loop-place.opened.items c.undecided_rule.result k.steps.runs c.in_turn-place-items.ensures past all (c.undecided_rule.ensures t used s all.1)
+    known_or_open t used s c.args.rules.now places c.loop-place.place-index c.loop-place.opened.items c.undecided_rule.result k.steps.runs c.in_turn-place-items.ensures past k.limits all (c.undecided_rule.ensures t used s)

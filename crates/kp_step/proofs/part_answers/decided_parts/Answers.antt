@@ -1,6 +1,7 @@
 use Rattle.std.proofs.Common.{rules, ◌≡◌, sym, ◌∙◌, ◌++◌, ◌∷◌, [], subst}
 use Rattle.kp_symbolic.specs.View.{state_view}
 use Rattle.kp_unify.specs.Views.{signature_of}
+use Rattle.kp_step.specs.Counted.{these_rules}
 use Rattle.kp_step.specs.Answers.{IsRightAnswerOf}
 use Rattle.kp_step.proofs.LoopLemmas.{nothing_left}
 use Rattle.kp_step.proofs.StageLemmas.{decides_begin, decides_more, decides_less, decides_open, decides_all, next_sorted}
@@ -41,7 +42,7 @@ loop-part-preserved c used ready =
     decides_less g used all found items rest p c.in-Some.ensures.steps.0 answer was
 
 pub returns-in-UndecidedClauses : goal.returns-in-UndecidedClauses
-returns-in-UndecidedClauses c used ready =
+returns-in-UndecidedClauses c t used o rules asked ready =
     let g = signature_of c.args.setting in
     let s = state_view c.args.state.now in
     let all = c.args.parts.items in
@@ -52,9 +53,9 @@ returns-in-UndecidedClauses c used ready =
     let was = c.loop-part.invariant used ready in
     let sorted = next_sorted g used all found items rest p c.in-Some.ensures.steps.0 was in
     let answer = subst (IsRightAnswerOf g s (state_view p.state)) c.in-UndecidedClauses.is (c.in_ok-answer_of.ensures sorted) in
-    decides_open g used s c.args.most all found items rest p c.in-UndecidedClauses.told c.in_ok-told-in-UndecidedClauses.told c.in-Some.ensures.steps.0 answer c.in_ok-told-in-UndecidedClauses.ensures.same c.in_ok-told-in-UndecidedClauses.ensures.counted was
+    decides_open g used s (these_rules o rules) all found items rest p c.in-UndecidedClauses.told c.in_ok-told-in-UndecidedClauses.told c.in-Some.ensures.steps.0 answer c.in_ok-told-in-UndecidedClauses.ensures.same (c.in_ok-told-in-UndecidedClauses.ensures.counted t o rules asked) was
 
 pub returns : goal.returns
-returns c used ready =
+returns c t used o rules asked ready =
     let over : c.loop-part.part-iterator.rest.items ≡ [] = nothing_left _ (sym c.loop-part.part-iterator.rest.ok.0 ∙ c.in-None.ensures.steps.0) in
     decides_all (signature_of c.args.setting) used c.args.parts.items c.loop-part.found.items c.loop-part.part-iterator.rest.items over (c.loop-part.invariant used ready)

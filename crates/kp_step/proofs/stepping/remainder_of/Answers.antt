@@ -14,5 +14,4 @@ returns c t used s found from z meet some =
     let begun = all_left t used s g q (numbered_views c.push.new.self.items) from.steps.signature from.whole one in
     let after = c.in_ok-left.ensures.left t used None found (whole s) (whole s) from.steps from.setting tt z begun in
     let alone = c.in_ok-left.ensures.alone t used found (whole s) (whole s) from.steps from.setting refl z begun in
-    let most = c.in_ok-most.ensures t found from.steps z in
-    remainder_by t used s g q found c.in_ok-most.most (numbered_views c.push.new.self.items) left c.in_ok-decided_parts.field-0 (map turn_view c.args.turns.now) from.steps.signature from.whole z meet most one after alone (c.in_ok-decided_parts.ensures used (ready_left g used None found (whole s) (whole s) left after))
+    remainder_by t used s g q found (numbered_views c.push.new.self.items) left c.in_ok-decided_parts.field-0 (map turn_view c.args.turns.now) from.steps.signature from.whole z meet one after alone (c.in_ok-decided_parts.ensures t used None found (from.steps, z) (ready_left g used None found (whole s) (whole s) left after))
