@@ -45,6 +45,7 @@ pub mod RightSideLemmas
 pub mod RuleLemmas
 pub mod SettledLemmas
 pub mod SilentLemmas
+pub mod SolvedAnswers
 pub mod SolvedLemmas
 pub mod SortedLemmas
 pub mod StageLemmas

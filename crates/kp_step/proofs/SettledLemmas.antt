@@ -16,6 +16,8 @@ use Rattle.kp_unify.specs.Narrowed.{NumberedPart}
 use Rattle.kp_unify.specs.Way.{IsInUse}
 use Rattle.kp_step.specs.ReadyParts.{IsReadyPart}
 use Rattle.kp_step.specs.Follows.{IsSolvedPart}
+use Rattle.kp_step.specs.Solved.{IsKnownAs}
+use Rattle.kp_step.proofs.SortedLemmas.{sorted_clauses}
 
 pub same_variables : (g : KoreSignature) (s t : SymbolicState) → Solving g s t → t.variables ≡ s.variables
 same_variables g s _ (finished _ e) = refl
@@ -42,3 +44,17 @@ settled_part g used q t k w r =
   where
     same : (v : Valuation) (c : Value) → GivesSorts g v q.part.state.variables → IsStateInstance g v q.part.state c ↔ IsStateInstance g v t c
     same v c h = solving_instance g v q.part.state t c k.safe.sorted h (each_of_these g q.part.state k.safe w) (each_right g v q.part.state k.safe h w) r
+
+-- with its equations solved a state has an instance where it has one
+pub known_by_solved : (g : KoreSignature) (p s : SymbolicState) → OfEachKept g (CanBeWritten g) p → Solving g p s → IsSafe g p → IsKnownAs g p s
+known_by_solved g p s w r k = record {
+  sorted = sorted_clauses g s (solving_safe g p s k w r).sorted;
+  some = λ i. let h = subst (λ xs. GivesSorts g i.valuation xs) e i.sorts in record { valuation = i.valuation; configuration = i.configuration; sorts = h; met = (same i.valuation i.configuration h).1 i.met };
+  none = λ n v c h i. n v c (subst (λ xs. GivesSorts g v xs) (sym e) h) ((same v c h).0 i);
+}
+  where
+    e : s.variables ≡ p.variables
+    e = same_variables g p s r
+
+    same : (v : Valuation) (c : Value) → GivesSorts g v p.variables → IsStateInstance g v p c ↔ IsStateInstance g v s c
+    same v c h = solving_instance g v p s c k.sorted h (each_of_these g p k w) (each_right g v p k h w) r

@@ -9,7 +9,7 @@ use Rattle.kp_kore.specs.Theory.{Theory}
 use Rattle.kp_kore.specs.Steps.{Fires, HasTurn, AnyByRecursion}
 use Rattle.kp_kore.proofs.TurnLemmas.{each_member, of_member}
 use Rattle.kp_symbolic.specs.States.{SymbolicState}
-use Rattle.kp_satisfiability.specs.Read.{HasSortedClauses}
+use Rattle.kp_symbolic_laws.specs.Safe.{IsSafe}
 use Rattle.kp_rule_sets.specs.RuleSets.{RunsAs}
 use Rattle.kp_rule_sets.specs.declared.rule_set.RuleSet.{RuleSet}
 use Rattle.kp_case_laws.specs.Parts.{whole, OfEachInstance}
@@ -31,7 +31,6 @@ use Rattle.kp_step.proofs.FoundLemmas.{one_at, no_turn_found, turn_found, all_fo
 use Rattle.kp_step.proofs.RemainderLemmas.{kept_more, kept_less}
 use Rattle.kp_step.proofs.LoopLemmas.{taken, all_taken, split_there}
 use Rattle.kp_step.proofs.OrderLemmas.{InTurn, each_is_there, none_comes_again, smaller_ahead, numbers_ahead}
-use Rattle.kp_step.proofs.SortedLemmas.{sorted_clauses}
 use Rattle.kp_step.proofs.AskedLemmas.{instance_there}
 
 -- ---- parts that are decided
@@ -64,10 +63,10 @@ decides_less g used all kept items rest p e none d =
     (h.0.1, h.1.1, kept_less g (numbered_views kept) (numbered_views rest) (numbered_views all) q none h.2)
 
 -- the next part can be decided
-pub next_sorted : (g : KoreSignature) (used : List Text) (all kept items rest : List Part) (p : Part) → items ≡ p ∷ rest → Deciding g used (numbered_views all) (numbered_views items) (numbered_views kept) → HasSortedClauses g (numbered_view p).part.state
-next_sorted g used all kept items rest p e d =
+pub next_safe : (g : KoreSignature) (used : List Text) (all kept items rest : List Part) (p : Part) → items ≡ p ∷ rest → Deciding g used (numbered_views all) (numbered_views items) (numbered_views kept) → IsSafe g (numbered_view p).part.state
+next_safe g used all kept items rest p e d =
     let h : Deciding g used (numbered_views all) (numbered_view p ∷ numbered_views rest) (numbered_views kept) = subst (λ xs. Deciding g used (numbered_views all) (numbered_views xs) (numbered_views kept)) e d in
-    sorted_clauses g (numbered_view p).part.state h.0.0.safe.sorted
+    h.0.0.safe
 
 -- what is left open of it
 pub decides_open : (g : KoreSignature) (used : List Text) (s : SymbolicState) (rules : List RewriteRule) (all kept items rest : List Part) (p : Part) (told o : UndecidedClauses) → items ≡ p ∷ rest → ShowsOf g s (numbered_view p).part.state told → o ≡ told → IsComparedWithin g s (numbered_view p).part.state rules o.over →

@@ -23,5 +23,6 @@ pub mod RightSides
 pub mod RightSteps
 pub mod Rules
 pub mod Silent
+pub mod Solved
 pub mod Tries
 pub mod Views

@@ -1,23 +1,27 @@
 // Whether parts have instances, and what is shown where that isn't decided.
-ghost use Rattle.std.specs.Prelude.{IfOk};
+ghost use Rattle.std.specs.Prelude.{IfOk, IfSome};
 ghost use Rattle.std.specs.Option.{option_map};
 ghost use Rattle.kp_symbolic.specs.States.{SymbolicState};
 ghost use Rattle.kp_symbolic.specs.View.{state_view};
+ghost use Rattle.kp_symbolic_laws.specs.Safe.{IsSafe};
 ghost use Rattle.kp_rules.specs.Skeletons.{skeleton_view};
 ghost use Rattle.kp_satisfiability.specs.Read.{HasSortedClauses};
 ghost use Rattle.kp_unify.specs.Views.{signature_of, HasItsTable};
 ghost use Rattle.kp_step.specs.Views.{numbered_views};
 ghost use Rattle.kp_step.specs.Answers.{IsRightUndecided, ShowsOf, IsRightAnswerOf, IsRightAnswerAlone};
+ghost use Rattle.kp_step.specs.Solved.{IsKnownAs, AnswersBySolved, AnswersWhenSolved};
 ghost use Rattle.kp_step.specs.Promises.{DecidesParts};
 
 use crate::counted_variables::told_where_weighed;
 use crate::turns::Turn;
+use kp_compile::CompileError;
 use kp_limits::Weighed;
 use kp_literals::clauses::read_clauses;
 use kp_literals::plain_clauses::rough_clauses;
 use kp_rule_sets::RuleSet;
 use kp_rules::Skeleton;
 use kp_satisfiability::{Verdict, decide};
+use kp_solving::settle;
 use kp_symbolic::{Clause, State};
 use kp_unify::{Part, Setting};
 use std::alloc::{AllocError, Global};
@@ -106,6 +110,67 @@ pub fn answer_alone(
     }
 }
 
+/// The part with its equations solved, where they can be.
+fn solved_of(alloc: Global, setting: Setting<'_>, part: &State) -> Result<Option<State>, AllocError>
+    ensures { let g = signature_of setting.entry in let p = state_view part.now in IfOk result (λ o. IfSome o (λ s. IsSafe g p → IsKnownAs g p (state_view s))) }
+{
+    match settle(alloc, setting.language, part.share(alloc)?) {
+        Ok(solved) => Ok(Some(solved)),
+        Err(CompileError::Memory) => Err(AllocError),
+        Err(CompileError::Shape) => Ok(None),
+    }
+}
+
+/// What is answered of a part that is left open, by the state that it is with its equations solved.
+fn answer_by_solved(
+    alloc: Global,
+    setting: Setting<'_>,
+    solved: &State,
+    told: UndecidedClauses,
+) -> Result<PartAnswer, AllocError>
+    requires { HasItsTable setting }
+    ensures { AnswersBySolved setting.entry solved.now told result }
+{
+    match decide(alloc, setting.language.signature, setting.table, solved)? {
+        Verdict::SomeValuation => Ok(PartAnswer::Instance),
+        Verdict::NoValuation => Ok(PartAnswer::Nothing),
+        Verdict::Undecided { .. } => Ok(PartAnswer::UndecidedClauses { told }),
+    }
+}
+
+/// What is answered of a part that is left open: what is decided with its equations solved.
+fn answer_when_solved(
+    alloc: Global,
+    setting: Setting<'_>,
+    part: &State,
+    told: UndecidedClauses,
+) -> Result<PartAnswer, AllocError>
+    requires { HasItsTable setting }
+    ensures { AnswersWhenSolved setting.entry part.now told result }
+{
+    match solved_of(alloc, setting, part)? {
+        Some(solved) => answer_by_solved(alloc, setting, &solved, told),
+        None => Ok(PartAnswer::UndecidedClauses { told }),
+    }
+}
+
+/// Whether a part of the state has an instance, with its equations solved where it isn't decided before.
+fn answer_of_part(
+    alloc: Global,
+    setting: Setting<'_>,
+    state: &State,
+    part: &State,
+) -> Result<PartAnswer, AllocError>
+    requires { HasItsTable setting }
+    ensures { let g = signature_of setting.entry in let p = state_view part.now in IfOk result (λ a. IsSafe g p → IsRightAnswerOf g (state_view state.now) p a) }
+{
+    match answer_of(alloc, setting, state, part)? {
+        PartAnswer::Instance => Ok(PartAnswer::Instance),
+        PartAnswer::Nothing => Ok(PartAnswer::Nothing),
+        PartAnswer::UndecidedClauses { told } => answer_when_solved(alloc, setting, part, told),
+    }
+}
+
 /// Of these parts of a state, which the rules of these turns leave to a rule of this left side, or to none: those that have an instance;
 /// what is left open of the first of which that isn't decided. With a weight, that compares no more whole-number variables than stand in
 /// the state and in the rules' left sides.
@@ -123,7 +188,7 @@ pub fn decided_parts(
 {
     let mut found = Vec::new(alloc);
     for part in parts {
-        match answer_of(alloc, setting, state, &part.state)? {
+        match answer_of_part(alloc, setting, state, &part.state)? {
             PartAnswer::Instance => found.push(part)?,
             PartAnswer::Nothing => {}
             PartAnswer::UndecidedClauses { told } => {

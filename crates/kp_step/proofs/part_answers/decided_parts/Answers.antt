@@ -4,7 +4,7 @@ use Rattle.kp_unify.specs.Views.{signature_of}
 use Rattle.kp_step.specs.Counted.{these_rules}
 use Rattle.kp_step.specs.Answers.{IsRightAnswerOf}
 use Rattle.kp_step.proofs.LoopLemmas.{nothing_left}
-use Rattle.kp_step.proofs.StageLemmas.{decides_begin, decides_more, decides_less, decides_open, decides_all, next_sorted}
+use Rattle.kp_step.proofs.StageLemmas.{decides_begin, decides_more, decides_less, decides_open, decides_all, next_safe}
 use Rattle.kp_step.proofs.part_answers.decided_parts.Goals as goal
 
 pub loop-part-init : goal.loop-part-init
@@ -22,8 +22,8 @@ loop-part-preserved-in-Continue-branch-3 c used ready =
     let rest = c.next.new.self.rest.items in
     let p = c.in-Some.part in
     let was = c.loop-part.invariant used ready in
-    let sorted = next_sorted g used all found items rest p c.in-Some.ensures.steps.0 was in
-    let answer = subst (IsRightAnswerOf g s (state_view p.state)) c.in-Instance.is (c.in_ok-answer_of.ensures sorted) in
+    let safe = next_safe g used all found items rest p c.in-Some.ensures.steps.0 was in
+    let answer = subst (IsRightAnswerOf g s (state_view p.state)) c.in-Instance.is (c.in_ok-answer_of_part.ensures safe) in
     let pushed : c.push.new.self.items ≡ found ++ p ∷ [] = search rules in
     decides_more g used all found c.push.new.self.items items rest p c.in-Some.ensures.steps.0 pushed answer was
 
@@ -37,8 +37,8 @@ loop-part-preserved c used ready =
     let rest = c.next.new.self.rest.items in
     let p = c.in-Some.part in
     let was = c.loop-part.invariant used ready in
-    let sorted = next_sorted g used all found items rest p c.in-Some.ensures.steps.0 was in
-    let answer = subst (IsRightAnswerOf g s (state_view p.state)) c.in-Nothing.is (c.in_ok-answer_of.ensures sorted) in
+    let safe = next_safe g used all found items rest p c.in-Some.ensures.steps.0 was in
+    let answer = subst (IsRightAnswerOf g s (state_view p.state)) c.in-Nothing.is (c.in_ok-answer_of_part.ensures safe) in
     decides_less g used all found items rest p c.in-Some.ensures.steps.0 answer was
 
 pub returns-in-UndecidedClauses : goal.returns-in-UndecidedClauses
@@ -51,8 +51,8 @@ returns-in-UndecidedClauses c t used o rules asked ready =
     let rest = c.next.new.self.rest.items in
     let p = c.in-Some.part in
     let was = c.loop-part.invariant used ready in
-    let sorted = next_sorted g used all found items rest p c.in-Some.ensures.steps.0 was in
-    let answer = subst (IsRightAnswerOf g s (state_view p.state)) c.in-UndecidedClauses.is (c.in_ok-answer_of.ensures sorted) in
+    let safe = next_safe g used all found items rest p c.in-Some.ensures.steps.0 was in
+    let answer = subst (IsRightAnswerOf g s (state_view p.state)) c.in-UndecidedClauses.is (c.in_ok-answer_of_part.ensures safe) in
     decides_open g used s (these_rules o rules) all found items rest p c.in-UndecidedClauses.told c.in_ok-told-in-UndecidedClauses.told c.in-Some.ensures.steps.0 answer c.in_ok-told-in-UndecidedClauses.ensures.same (c.in_ok-told-in-UndecidedClauses.ensures.counted t o rules asked) was
 
 pub returns : goal.returns
