@@ -22,7 +22,7 @@ use Rattle.kp_satisfiability.specs.declared.verdict.Verdict.TheVariants as code
 use Rattle.kp_limits.specs.Wide.{WideCall, first_wide}
 use Rattle.kp_outward.specs.Arranged.{AreArranged, with_clauses}
 use Rattle.kp_outward.specs.Errors.{InjectsIfThere}
-use Rattle.kp_simplify.specs.Answers.{IsArrangedPredicate, empty, wide, rough, heavy, deeper, some, first_deep, state_sides}
+use Rattle.kp_simplify.specs.Answers.{IsArrangedPredicate, MayBeTrue, empty, wide, rough, heavy, deeper, some, first_deep, state_sides}
 use Rattle.kp_simplify.specs.Spelled.{parts_of_cause}
 use Rattle.kp_simplify.specs.Told.{IsAnswered, IsSpelledState, IsToldAs, ShowsPredicate, parts_of_call, WantsInjection}
 use Rattle.kp_simplify.specs.declared.answer.Simplified.{Simplified}
@@ -40,12 +40,12 @@ if_ok (Err e) P Q f h = tt
 pub none_answered : (g : KoreSignature) (s : SymbolicState) → IsRightVerdict g s no_valuation → IsAnswered g s found.Nothing
 none_answered g s h = record { answer = answered (nothing s.sort); is = empty h; is_told = tt; spelled = tt }
 
-wide_here : (g : KoreSignature) (s : SymbolicState) (u : told.Undecided) (o : Option WideCall) → first_wide g s ≡ o → Some (undecided_view u) ≡ option_map parts_of_call o → IsAnswered g s (found.UndecidedStep u)
-wide_here g s u (Some c) f k = record { answer = what_is_undecided (wide_number c.symbol c.first c.second); is = wide c f; is_told = inside k; spelled = tt }
-wide_here g s u None f k = absurd (cc)
+wide_here : (g : KoreSignature) (s : SymbolicState) (u : told.Undecided) (o : Option WideCall) → MayBeTrue g s → first_wide g s ≡ o → Some (undecided_view u) ≡ option_map parts_of_call o → IsAnswered g s (found.UndecidedStep u)
+wide_here g s u (Some c) may f k = record { answer = what_is_undecided (wide_number c.symbol c.first c.second); is = wide c may f; is_told = inside k; spelled = tt }
+wide_here g s u None may f k = absurd (cc)
 
-pub wide_answered : (g : KoreSignature) (s : SymbolicState) (call : Option told.Undecided) (u : told.Undecided) → call ≡ Some u → option_map undecided_view call ≡ option_map parts_of_call (first_wide g s) → IsAnswered g s (found.UndecidedStep u)
-wide_answered g s call u is e = wide_here g s u (first_wide g s) refl (sym (ap (option_map undecided_view) is) ∙ e)
+pub wide_answered : (g : KoreSignature) (s : SymbolicState) (call : Option told.Undecided) (u : told.Undecided) → MayBeTrue g s → call ≡ Some u → option_map undecided_view call ≡ option_map parts_of_call (first_wide g s) → IsAnswered g s (found.UndecidedStep u)
+wide_answered g s call u may is e = wide_here g s u (first_wide g s) may refl (sym (ap (option_map undecided_view) is) ∙ e)
 
 no_wide : (o : Option WideCall) → None ≡ option_map parts_of_call o → o ≡ None
 no_wide (Some c) k = absurd (cc)
@@ -54,12 +54,25 @@ no_wide None k = refl
 pub none_wide : (g : KoreSignature) (s : SymbolicState) (call : Option told.Undecided) → call ≡ None → option_map undecided_view call ≡ option_map parts_of_call (first_wide g s) → first_wide g s ≡ None
 none_wide g s call is e = no_wide (first_wide g s) (sym (ap (option_map undecided_view) is) ∙ e)
 
-pub deep_answered : (g : KoreSignature) (s : SymbolicState) (n : ℕ) (u : told.Undecided) → (o : Option ℕ) → o ≡ Some n → o ≡ first_deep g (state_sides s) → undecided_view u ≡ parts_of_cause (deep n) → IsAnswered g s (found.UndecidedStep u)
-deep_answered g s n u o is e k = record { answer = what_is_undecided (deep n); is = deeper n (sym e ∙ is); is_told = k; spelled = tt }
+pub deep_answered : (g : KoreSignature) (s : SymbolicState) (n : ℕ) (u : told.Undecided) → (o : Option ℕ) → IsRightVerdict g s some_valuation → first_wide g s ≡ None → o ≡ Some n → o ≡ first_deep g (state_sides s) → undecided_view u ≡ parts_of_cause (deep n) → IsAnswered g s (found.UndecidedStep u)
+deep_answered g s n u o right none is e k = record { answer = what_is_undecided (deep n); is = deeper n right none (sym e ∙ is); is_told = k; spelled = tt }
 
 pub written_answered : (g : KoreSignature) (s : SymbolicState) (p : KorePattern) (a : Simplified) → IsToldAs (answered (state p)) a → IsRightVerdict g s some_valuation → first_wide g s ≡ None → first_deep g (state_sides s) ≡ None →
     (ds : List (List Literal)) × AreArranged g s.sort s.clauses ds × (p ≡ written_state g (with_clauses s ds)) → IsSpelledState g s p → IsAnswered g s a
 written_answered g s p a is_told h w d is spelled = record { answer = answered (state p); is = some p h w d is; is_told = is_told; spelled = spelled }
+
+-- where a right verdict says something else, the clauses may be true
+pub may_by_some : (g : KoreSignature) (s : SymbolicState) → IsRightVerdict g s some_valuation → MayBeTrue g s
+may_by_some g s right = (some_valuation, right, other)
+  where
+    other : some_valuation ≡ no_valuation → ⊥
+    other e = cc
+
+pub may_by_open : (g : KoreSignature) (s : SymbolicState) (cs : List (List Literal)) (h : Option Weighed) → IsRightVerdict g s (undecided cs h) → MayBeTrue g s
+may_by_open g s cs h right = (undecided cs h, right, other)
+  where
+    other : undecided cs h ≡ no_valuation → ⊥
+    other e = cc
 
 -- ---- clauses that are shown
 
@@ -70,11 +83,11 @@ turned : (g : KoreSignature) (s : SymbolicState) (cs : List (List Literal)) (p :
 turned g s cs p (ds, arranged, is) = (ds, arranged, sym is)
 
 pub shown_answered : (g : KoreSignature) (s : SymbolicState) (cs : List (List Literal)) (p : KorePattern) (a : Simplified) (h : Option Weighed) → ShowsPredicate p h a →
-    IsRightVerdict g s (undecided cs h) → IsShownPredicate g s cs p → IsAnswered g s a
-shown_answered g s cs p (found.UndecidedStep u) None e right is = record { answer = what_is_undecided (unknown_clauses p); is = rough cs p right (turned g s cs p is); is_told = e; spelled = tt }
-shown_answered g s cs p (found.UndecidedStep u) (Some h) e right is = record { answer = what_is_undecided (weight_passed p h.weight (min h.number most_told)); is = heavy cs h p right (turned g s cs p is); is_told = e; spelled = tt }
-shown_answered g s cs p found.Nothing h e right is = absurd e
-shown_answered g s cs p (found.State q) h e right is = absurd e
+    IsRightVerdict g s (undecided cs h) → first_wide g s ≡ None → IsShownPredicate g s cs p → IsAnswered g s a
+shown_answered g s cs p (found.UndecidedStep u) None e right n is = record { answer = what_is_undecided (unknown_clauses p); is = rough cs p right n (turned g s cs p is); is_told = e; spelled = tt }
+shown_answered g s cs p (found.UndecidedStep u) (Some h) e right n is = record { answer = what_is_undecided (weight_passed p h.weight (min h.number most_told)); is = heavy cs h p right n (turned g s cs p is); is_told = e; spelled = tt }
+shown_answered g s cs p found.Nothing h e right n is = absurd e
+shown_answered g s cs p (found.State q) h e right n is = absurd e
 
 -- ---- answers that want inj
 
@@ -87,16 +100,16 @@ state_wants g s (ds, arranged, wants) h w d = record {
 }
 
 -- of some clauses that are shown
-predicate_is_wanted : (g : KoreSignature) (s : SymbolicState) (cs : List (List Literal)) (h : Option Weighed) (p : KorePattern) → IsRightVerdict g s (undecided cs h) → IsArrangedPredicate g s.sort cs p → (InjectsWhereItStands g p → ⊥) → WantsInjection g s
-predicate_is_wanted g s cs None p right is wants = record { answer = what_is_undecided (unknown_clauses p); is = rough cs p right is; wants = wants }
-predicate_is_wanted g s cs (Some h) p right is wants = record { answer = what_is_undecided (weight_passed p h.weight (min h.number most_told)); is = heavy cs h p right is; wants = wants }
+predicate_is_wanted : (g : KoreSignature) (s : SymbolicState) (cs : List (List Literal)) (h : Option Weighed) (p : KorePattern) → IsRightVerdict g s (undecided cs h) → first_wide g s ≡ None → IsArrangedPredicate g s.sort cs p → (InjectsWhereItStands g p → ⊥) → WantsInjection g s
+predicate_is_wanted g s cs None p right n is wants = record { answer = what_is_undecided (unknown_clauses p); is = rough cs p right n is; wants = wants }
+predicate_is_wanted g s cs (Some h) p right n is wants = record { answer = what_is_undecided (weight_passed p h.weight (min h.number most_told)); is = heavy cs h p right n is; wants = wants }
 
 pub predicate_wants : (g : KoreSignature) (s : SymbolicState) (cs : List (List Literal)) → (ds : List (List Literal)) × AreArranged g s.sort cs ds × (InjectsIfThere g (written_predicate g s.sort ds) → ⊥) →
-    (h : Option Weighed) → IsRightVerdict g s (undecided cs h) → WantsInjection g s
-predicate_wants g s cs (ds, arranged, wants) h right = by (written_predicate g s.sort ds) refl wants
+    first_wide g s ≡ None → (h : Option Weighed) → IsRightVerdict g s (undecided cs h) → WantsInjection g s
+predicate_wants g s cs (ds, arranged, wants) n h right = by (written_predicate g s.sort ds) refl wants
   where
     by : (o : Option KorePattern) → written_predicate g s.sort ds ≡ o → (InjectsIfThere g o → ⊥) → WantsInjection g s
-    by (Some p) e wanted = predicate_is_wanted g s cs h p right (ds, arranged, e) wanted
+    by (Some p) e wanted = predicate_is_wanted g s cs h p right n (ds, arranged, e) wanted
     by None e wanted = absurd (wanted tt)
 
 -- ---- what decide tells

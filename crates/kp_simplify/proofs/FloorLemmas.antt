@@ -31,10 +31,10 @@ IsDecided g s = (a : Verdict) → IsRightVerdict g s a → IsDecision a
 
 only_limits : (g : KoreSignature) (s : SymbolicState) (r : Result Simplified) (u : Undecided) → IsDecided g s → IsAnswer g s r → r ≡ what_is_undecided u → IsLimitOfTerms u
 only_limits g s r u decided (empty h) e = absurd (cc)
-only_limits g s r u decided (wide c h) e = subst IsLimitOfTerms (same_cause _ u _ refl e) tt
-only_limits g s r u decided (rough cs p h w) e = absurd (not_open cs None (decided (undecided cs None) h))
-only_limits g s r u decided (heavy cs k p h w) e = absurd (not_open cs (Some k) (decided (undecided cs (Some k)) h))
-only_limits g s r u decided (deeper n h) e = subst IsLimitOfTerms (same_cause _ u _ refl e) tt
+only_limits g s r u decided (wide c may h) e = subst IsLimitOfTerms (same_cause _ u _ refl e) tt
+only_limits g s r u decided (rough cs p h n w) e = absurd (not_open cs None (decided (undecided cs None) h))
+only_limits g s r u decided (heavy cs k p h n w) e = absurd (not_open cs (Some k) (decided (undecided cs (Some k)) h))
+only_limits g s r u decided (deeper n h w d) e = subst IsLimitOfTerms (same_cause _ u _ refl e) tt
 only_limits g s r u decided (some p h n d w) e = absurd (cc)
 
 pub floor_is_kept : (g : KoreSignature) (p : KorePattern) (s : SymbolicState) (r : Result Simplified) → IsReadAs g p s → AllByRecursion (λ c. AreAtHand (clause_variables c) s.variables) s.clauses →

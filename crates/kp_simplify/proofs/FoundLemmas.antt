@@ -72,10 +72,10 @@ IsSoundReading g p s = IsSoundState g s × HasInstancesOf g p s
 right : (g : KoreSignature) (p : KorePattern) (sort : KoreSort) (s : SymbolicState) (r : endings.Result theory.Simplified) → VerifiesAs g p sort → state_fault g p ≡ None → IsReadAs g p s → IsSoundReading g p s → IsWellFormed g s →
     IsAnswer g s r → IsSpelled g s r → IsRightOfSimplify g p r
 right g p sort s r verified clear read made well (empty h) spelled = empty_is_right g p s made.1 (has_sort g p s read) h
-right g p sort s r verified clear read made well (wide c e) spelled = record { state = s; read = read; shown = wide_is_shown g p s c e }
-right g p sort s r verified clear read made well (rough cs q h is) spelled = record { state = s; read = read; shown = rough_is_shown g p q s cs h is }
-right g p sort s r verified clear read made well (heavy cs k q h is) spelled = record { state = s; read = read; shown = heavy_is_shown g p q s cs k h is }
-right g p sort s r verified clear read made well (deeper n e) spelled = record { state = s; read = read; shown = deep_is_shown g p s n well e }
+right g p sort s r verified clear read made well (wide c may e) spelled = record { state = s; read = read; shown = wide_is_shown g p s c e }
+right g p sort s r verified clear read made well (rough cs q h n is) spelled = record { state = s; read = read; shown = rough_is_shown g p q s cs h is }
+right g p sort s r verified clear read made well (heavy cs k q h n is) spelled = record { state = s; read = read; shown = heavy_is_shown g p q s cs k h is }
+right g p sort s r verified clear read made well (deeper n h w e) spelled = record { state = s; read = read; shown = deep_is_shown g p s n well e }
 right g p sort s r verified clear read made well (some q h n d is) spelled = state_is_right g p q s made.1 h made.0 spelled (computed g p q s sort verified clear read spelled.injects is)
 
 pub found_of : (g : KoreSignature) (p : KorePattern) (sort : KoreSort) (s : SymbolicState) (a : Simplified) → VerifiesAs g p sort → state_fault g p ≡ None → IsReadAs g p s → IsSoundReading g p s → IsWellFormed g s → (IsWellFormed g s → IsAnswered g s a) → IsFound g p a

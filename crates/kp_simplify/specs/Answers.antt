@@ -10,7 +10,7 @@ use Rattle.kp_kore.specs.Implied.{Simplified, state, nothing}
 use Rattle.kp_symbolic.specs.Terms.{SymbolicTerm}
 use Rattle.kp_symbolic.specs.States.{Atom, same, Literal, SymbolicState}
 use Rattle.kp_symbolic.specs.Writing.{written_term, written_predicate, written_state}
-use Rattle.kp_symbolic.specs.Verdicts.{Weighed, some_valuation, no_valuation, undecided, IsRightVerdict}
+use Rattle.kp_symbolic.specs.Verdicts.{Verdict, Weighed, some_valuation, no_valuation, undecided, IsRightVerdict}
 use Rattle.kp_symbolic.specs.Shown.{unknown_clauses, weight_passed, wide_number, deep, most_told}
 use Rattle.kp_symbolic.specs.Endings.{Result, answered, what_is_undecided}
 use Rattle.kp_limits.specs.Wide.{WideCall, first_wide}
@@ -65,16 +65,21 @@ first_deep g (x ∷ xs) = first_number (too_deep (depth_of g x)) (first_deep g x
 
 -- ---- the answer
 
+-- a right verdict says something else than that no values make the clauses true
+abbrev pub MayBeTrue : KoreSignature → SymbolicState → Type 0
+MayBeTrue g s = (d : Verdict) × IsRightVerdict g s d × ¬ (d ≡ no_valuation)
+
+-- In the order of the causes, each told where none before it is: no values, a number, clauses that aren't decided, depth.
 pub data IsAnswer (g : KoreSignature) (s : SymbolicState) : Result Simplified → Type 0 where
   -- no values of the variables make the clauses true
   empty : IsRightVerdict g s no_valuation → IsAnswer g s (answered (nothing s.sort))
   -- a call of two numbers that leaves 128 bits
-  wide : (c : WideCall) → first_wide g s ≡ Some c → IsAnswer g s (what_is_undecided (wide_number c.symbol c.first c.second))
+  wide : (c : WideCall) → MayBeTrue g s → first_wide g s ≡ Some c → IsAnswer g s (what_is_undecided (wide_number c.symbol c.first c.second))
   -- clauses that aren't plain
-  rough : (cs : List (List Literal)) (p : KorePattern) → IsRightVerdict g s (undecided cs None) → IsArrangedPredicate g s.sort cs p → IsAnswer g s (what_is_undecided (unknown_clauses p))
+  rough : (cs : List (List Literal)) (p : KorePattern) → IsRightVerdict g s (undecided cs None) → first_wide g s ≡ None → IsArrangedPredicate g s.sort cs p → IsAnswer g s (what_is_undecided (unknown_clauses p))
   -- clauses over a weight
-  heavy : (cs : List (List Literal)) (h : Weighed) (p : KorePattern) → IsRightVerdict g s (undecided cs (Some h)) → IsArrangedPredicate g s.sort cs p → IsAnswer g s (what_is_undecided (weight_passed p h.weight (min h.number most_told)))
+  heavy : (cs : List (List Literal)) (h : Weighed) (p : KorePattern) → IsRightVerdict g s (undecided cs (Some h)) → first_wide g s ≡ None → IsArrangedPredicate g s.sort cs p → IsAnswer g s (what_is_undecided (weight_passed p h.weight (min h.number most_told)))
   -- a term that is too deep
-  deeper : (n : ℕ) → first_deep g (state_sides s) ≡ Some n → IsAnswer g s (what_is_undecided (deep n))
+  deeper : (n : ℕ) → IsRightVerdict g s some_valuation → first_wide g s ≡ None → first_deep g (state_sides s) ≡ Some n → IsAnswer g s (what_is_undecided (deep n))
   -- some values of the variables make them true
   some : (p : KorePattern) → IsRightVerdict g s some_valuation → first_wide g s ≡ None → first_deep g (state_sides s) ≡ None → IsArrangedPattern g s p → IsAnswer g s (answered (state p))

@@ -67,9 +67,10 @@ fn shown(
     over: Option<Weighed>,
 ) -> Result<Simplified, WritingError>
     ensures answered { let g = language_view language.now in let s = state_view state.now in let cs = clauses_view clauses.now in
-        IfOk result (λ a. (h : Option verdicts.Weighed) → verdicts.IsRightVerdict g s (verdicts.undecided cs h) → IsWeighedAs h over → IsAnswered g s a) }
+        IfOk result (λ a. (h : Option verdicts.Weighed) → verdicts.IsRightVerdict g s (verdicts.undecided cs h) → IsWeighedAs h over → wide.first_wide g s ≡ None → IsAnswered g s a) }
     ensures refused { IfErr result (λ e. IsNoInjection e → meaning_of (language_view language.now) injection_name ≢ injection) }
-    ensures wants { let g = language_view language.now in IfErr result (λ e. IsNoInjection e → WantsInjectionFor g (state_view state.now) (clauses_view clauses.now)) }
+    ensures wants { let g = language_view language.now in let s = state_view state.now in
+        IfErr result (λ e. IsNoInjection e → wide.first_wide g s ≡ None → WantsInjectionFor g s (clauses_view clauses.now)) }
 {
     let written = predicate_out(alloc, language, &state.sort, clauses)?;
     match written {

@@ -1,11 +1,11 @@
 use Rattle.std.proofs.lemmas.Result.{IfErr-weaker}
 use Rattle.kp_symbolic.specs.Languages.{language_view}
 use Rattle.kp_symbolic.specs.View.{state_view}
-use Rattle.kp_simplify.proofs.AnswerLemmas.{if_ok, wide_answered, none_wide}
+use Rattle.kp_simplify.proofs.AnswerLemmas.{if_ok, may_by_some, wide_answered, none_wide}
 use Rattle.kp_simplify.proofs.state_answer.found.Goals as goal
 
 pub returns-in-Some-clause-answered : goal.returns-in-Some-clause-answered
-returns-in-Some-clause-answered c = λ right. wide_answered (language_view c.args.language.now) (state_view c.args.state.now) c.in_ok-call.call c.in-Some.undecided c.in-Some.is c.in_ok-call.ensures
+returns-in-Some-clause-answered c = λ right. let g = language_view c.args.language.now in let s = state_view c.args.state.now in wide_answered g s c.in_ok-call.call c.in-Some.undecided (may_by_some g s right) c.in-Some.is c.in_ok-call.ensures
 
 pub returns-in-None-clause-answered : goal.returns-in-None-clause-answered
 returns-in-None-clause-answered c =

@@ -11,11 +11,11 @@ use Rattle.kp_simplify.proofs.AnswerLemmas.{predicate_wants, shown_answered}
 use Rattle.kp_simplify.proofs.state_answer.shown.Goals as goal
 
 pub returns-in-Some-clause-answered : goal.returns-in-Some-clause-answered
-returns-in-Some-clause-answered c = λ h right weighed.
+returns-in-Some-clause-answered c = λ h right weighed none.
     let g = language_view c.args.language.now in
     let s = state_view c.args.state.now in
     let cs = clauses_view c.args.clauses.now in
-    shown_answered g s cs (view c.in-Some.predicate.value) c.predicate_shown.result h (c.predicate_shown.ensures h weighed) right (search rules)
+    shown_answered g s cs (view c.in-Some.predicate.value) c.predicate_shown.result h (c.predicate_shown.ensures h weighed) right none (search rules)
 
 pub returns-in_err-written-clause-wants : goal.returns-in_err-written-clause-wants
 returns-in_err-written-clause-wants c =
@@ -25,5 +25,5 @@ returns-in_err-written-clause-wants c =
     let same : sort_view c.deref.result.now ≡ sort_view c.args.state.now.sort.value = search rules in
     let p = err_from_is_err_and c.from_residual.result c.from_residual.ensures.1 in
     rw (p.1, p.2)
-    (λ is h right.
-    predicate_wants g s cs (subst (λ a. (ds : List (List Literal)) × AreArranged g a cs ds × (InjectsIfThere g (written_predicate g a ds) → ⊥)) same (c.in_err-written.ensures.refused is)) h right)
+    (λ is none h right.
+    predicate_wants g s cs (subst (λ a. (ds : List (List Literal)) × AreArranged g a cs ds × (InjectsIfThere g (written_predicate g a ds) → ⊥)) same (c.in_err-written.ensures.refused is)) none h right)

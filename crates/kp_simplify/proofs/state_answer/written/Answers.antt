@@ -7,7 +7,7 @@ use Rattle.kp_simplify.proofs.AnswerLemmas.{if_ok, deep_answered}
 use Rattle.kp_simplify.proofs.state_answer.written.Goals as goal
 
 pub returns-in-Some-clause-answered : goal.returns-in-Some-clause-answered
-returns-in-Some-clause-answered c = λ right none. deep_answered (language_view c.args.language.now) (state_view c.args.state.now) c.in-Some.depth c.deep_term.result c.in_ok-deep.deep c.in-Some.is c.in_ok-deep.ensures c.deep_term.ensures
+returns-in-Some-clause-answered c = λ right none. deep_answered (language_view c.args.language.now) (state_view c.args.state.now) c.in-Some.depth c.deep_term.result c.in_ok-deep.deep right none c.in-Some.is c.in_ok-deep.ensures c.deep_term.ensures
 
 pub returns-in-None-clause-answered : goal.returns-in-None-clause-answered
 returns-in-None-clause-answered c =
