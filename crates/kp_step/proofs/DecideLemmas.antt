@@ -45,4 +45,4 @@ shown_of_instance g s p shown (Some h) i r = (r.0, inl r.1)
 -- of the state itself what isn't decided is shown
 pub shown_itself : (g : KoreSignature) (s : SymbolicState) (shown : List (List Literal)) (h : Option Weighed) → IsRightVerdict g s (undecided shown h) → IsShownOf g s s shown h
 shown_itself g s shown None r = inl r
-shown_itself g s shown (Some h) r = (r, inr (record { over = r.over; shown_are = refl }))
+shown_itself g s shown (Some h) r = (r, inr (record { over = r.over; shown_are = refl; plain_first = r.plain_first }))
