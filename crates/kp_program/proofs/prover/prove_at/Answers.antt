@@ -1,5 +1,6 @@
 use Rattle.std.proofs.Common.{◌≡◌, ◌∙◌, ◌<◌, ◌^◌, ap, arith, rules, string_bytes}
 use Rattle.kp_claim_sentences.specs.Claims.{StatedClaim}
+use Rattle.kp_claim_sentences.specs.Items.{item_view}
 use Rattle.kp_graph.specs.TreeView.{tree_view}
 use Rattle.kp_client.specs.View.{outcome_view}
 use Rattle.kp_program.specs.Proofs.{told_theory}
