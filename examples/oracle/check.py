@@ -34,8 +34,8 @@ def wanted_implication(definition, antecedent, consequent):
     (left, sort), (right, other) = antecedent, consequent
     is_valid = value_of(left, {}) == value_of(right, {})
     if sort != other:
-        error = {"code": 2, "data": {"kind": "T2"}, "message": "Could not verify pattern"}
-        return line({"error": error, "id": 1, "jsonrpc": "2.0"}), "T2"
+        error = {"code": 4, "data": {"kind": "I2"}, "message": "Implication check error"}
+        return line({"error": error, "id": 1, "jsonrpc": "2.0"}), "I2"
     top = wrapped({"sort": sort_json(sort), "tag": "Top"})
     result = {"condition": {"predicate": top, "substitution": top}, "valid": True} if is_valid else {"valid": False}
     return line({"id": 1, "jsonrpc": "2.0", "result": result}), "valid" if is_valid else "not valid"

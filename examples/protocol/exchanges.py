@@ -14,7 +14,7 @@ import sys
 HERE = os.path.dirname(os.path.abspath(__file__))
 DOCUMENT = os.path.join(HERE, "..", "..", "docs", "PROTOCOL.md")
 DEFINITION = os.path.join(HERE, "..", "toys", "toys.kore")
-TOKENS = re.compile(r"\s*(/\\|\\\w+|[<>]=?|==|=|[A-Z]\w*|[a-z]\w*|-?\d+|[-+*^(),])")
+TOKENS = re.compile(r"\s*(/\\|\\\w+|[<>]=?|==|=|[A-Z]\w*|[a-z]\w*|-?\d+|[-+*^(),.])")
 CALLS = {"+": "add", "-": "sub", "*": "mul", ">": "gt", ">=": "ge", "<": "lt", "<=": "le", "==": "eq"}
 SORTS = {"P": "SortP", "pa": "SortP", "pb": "SortP", "pc": "SortP"}
 
@@ -62,6 +62,11 @@ class Reader:
             for _ in range(times):
                 it = {"tag": "Not", "sort": sort("SortS"), "arg": it}
             return it
+        if self.next("\\exists"):
+            name = self.next()
+            assert self.next(".")
+            bound = {"var": name, "varSort": sort(SORTS.get(name, "SortInt")), "arg": self.pattern()}
+            return {"tag": "Exists", "sort": sort("SortS"), **bound}
         if self.tokens[0] in ("\\top", "\\bottom"):
             return {"tag": self.next()[1:].capitalize(), "sort": sort("SortS")}
         name = self.tokens[0]

@@ -1,33 +1,37 @@
 -- Two ground terms of one sort imply one another exactly where their values are one; from what was read of a request of
 -- implies to its reply.
-use Rattle.std.proofs.Common.{◌≡◌, ◌≢◌, true, List, ℕ, [], ◌∷◌, Option, Some, None, Vec, refl, sym, ap, subst, ◌∙◌, inl}
-use Rattle.std.specs.Option.{option_map}
+use Rattle.std.proofs.Common.{◌≡◌, ◌≢◌, Bool, true, false, if◌then◌else◌, List, ℕ, [], ◌∷◌, Option, Some, None, Vec, refl, sym, ap, subst, ◌∙◌, inl}
+use Rattle.std.specs.List.{filter_map, cons_option}
+use Rattle.std.specs.Option.{option_map, is_some}
 use Rattle.std.specs.declared.alloc.Global.{Global}
 use Rattle.serde_json.specs.Data.{Data}
 use Rattle.kp_kore.specs.Syntax.{Text, KoreSort, KorePattern, variable, set_variable, application, string_literal, literal, top, bottom, negation, next, conjunction, disjunction, implication, equivalence, rewriting, exists, forall, ceil, floor, equals, membership, mu, nu}
-use Rattle.kp_kore.specs.Parts.{SortedName, is_term, free_variables}
+use Rattle.kp_kore.specs.Parts.{SortedName, is_term, free_variables, subpatterns}
 use Rattle.kp_kore.specs.Signature.{KoreSignature}
 use Rattle.kp_kore.specs.View.{sort_view}
 use Rattle.kp_kore.specs.Value.{Value, truth}
 use Rattle.kp_kore.specs.Instance.{Valuation, GivesSorts, IsInstance}
-use Rattle.kp_kore.specs.Rules.{top_binders, under_binders}
+use Rattle.kp_kore.specs.Rules.{only_one, top_binders, under_binders}
 use Rattle.kp_kore.specs.AtHand.{GivesAll, HasSome}
 use Rattle.kp_kore.specs.Implied.{Implied, DoesImply, HasCounterexample, IsOfSort, IsWitness, witnessed, IsRightImplied}
 use Rattle.kp_kore.specs.Implied as sides
 use Rattle.kp_kore.proofs.InstanceLemmas.{one_instance}
 use Rattle.kp_ground.specs.View.{value_view}
-use Rattle.kp_signature.specs.Places.{own_sort}
+use Rattle.kp_signature.specs.Places.{earlier, own_sort}
 use Rattle.kp_signature.specs.Verify.{VerifiesAs}
-use Rattle.kp_compile.specs.Spelled.{IsGroundState}
+use Rattle.kp_compile.specs.Spelled.{IsGroundState, IsOtherShape, no_term, first_foreign, first_member, foreign_name}
 use Rattle.kp_compile.specs.declared.state.GroundState.{GroundState}
+use Rattle.kp_clauses.specs.Faults as place
+use Rattle.kp_clauses.specs.Faults.{first_among, part_fault, member_fault, members_fault, state_fault}
+use Rattle.kp_sides.specs.Sides.{side_fault}
 use Rattle.kp_rpc.specs.Reply.{reply_bytes, result_reply}
 use Rattle.kp_replies.specs.Written.{implied_tree}
 use Rattle.kp_rpc.specs.Request.{RequestId}
 use Rattle.kp_rpc.specs.declared.fault.StateFault.TheVariants as fault
 use Rattle.kp_methods.specs.Ends.{IsStateAt}
 use Rattle.kp_methods.specs.ServedTheory.{IsElsewhere, ServedTheory}
-use Rattle.kp_methods.specs.Untold.{IsImpliesUntold, asked_elsewhere, no_antecedent, no_consequent, other_sorts}
-use Rattle.kp_methods.specs.Sides.{AreCompared, result_at}
+use Rattle.kp_methods.specs.Untold.{IsImpliesUntold, asked_elsewhere, no_antecedent, no_consequent}
+use Rattle.kp_methods.specs.Sides.{IsComparedAs, IsFaultlessTerm, result_at}
 use Rattle.kp_methods.specs.declared.failure.PatternFailure.TheVariants as failure
 
 -- ---- ground terms
@@ -93,23 +97,23 @@ has_instance g a c s t u w ha hc = record {
   such = tt;
 }
 
-does_imply : (g : KoreSignature) (a c : KorePattern) (s : KoreSort) (u : Value) → IsGroundState g a s u → IsGroundState g c s u → DoesImply g a c
-does_imply g a c s u ha hc v x given i = has_value g c s u hc v x (value_of g a s u ha v x i)
+does_imply : (g : KoreSignature) (a c : KorePattern) (s t : KoreSort) (u : Value) → IsGroundState g a s u → IsGroundState g c t u → DoesImply g a c
+does_imply g a c s t u ha hc v x given i = has_value g c t u hc v x (value_of g a s u ha v x i)
 
 -- \top tells the values of no variables
-witness : (g : KoreSignature) (a c : KorePattern) (s : KoreSort) (u : Value) → IsGroundState g a s u → IsGroundState g c s u → IsWitness g a c (top s)
-witness g a c s u ha hc =
+witness : (g : KoreSignature) (a c : KorePattern) (s t : KoreSort) (u : Value) → IsGroundState g a s u → IsGroundState g c t u → IsWitness g a c (top s)
+witness g a c s t u ha hc =
     let none = binds_nothing c hc.term in
     record {
       chosen = λ v x given i. (v, record { agrees = λ y e. refl; sorts = gives_none g v (top_binders c) none.variables }, tt);
-      met = λ v x given i w chooses t. subst (λ (q : KorePattern). IsInstance g w q x) (sym none.body) (has_value g c s u hc w x (value_of g a s u ha v x i));
+      met = λ v x given i w chooses h. subst (λ (q : KorePattern). IsInstance g w q x) (sym none.body) (has_value g c t u hc w x (value_of g a s u ha v x i));
     }
 
 -- where both have the value, the antecedent implies the consequent
-pub valid_is_right : (g : KoreSignature) (a c : KorePattern) (s : KoreSort) (u : Value) → IsOfSort g s a → IsGroundState g a s u → IsGroundState g c s u → IsRightImplied g a c (sides.valid (top s) (top s))
-valid_is_right g a c s u sorted ha hc = (
-  does_imply g a c s u ha hc,
-  witnessed s sorted (has_instance g a c s s u u ha hc) refl (witness g a c s u ha hc) (λ none. refl),
+pub valid_is_right : (g : KoreSignature) (a c : KorePattern) (s t : KoreSort) (u : Value) → IsOfSort g s a → IsGroundState g a s u → IsGroundState g c t u → IsRightImplied g a c (sides.valid (top s) (top s))
+valid_is_right g a c s t u sorted ha hc = (
+  does_imply g a c s t u ha hc,
+  witnessed s sorted (has_instance g a c s t u u ha hc) refl (witness g a c s t u ha hc) (λ none. refl),
 )
 
 -- where they differ, the antecedent's value is a counterexample
@@ -133,19 +137,59 @@ pub ground_of : (g : KoreSignature) (p : KorePattern) (sort : KoreSort) (a : Gro
 ground_of g p sort a verifies at = at.ground verifies
 
 pub right_result : (g : KoreSignature) (p q : KorePattern) (a c : GroundState) (o : Option KoreSort) → IsOfSort g (sort_view a.sort) p → IsGroundState g p (sort_view a.sort) (value_view a.value) → IsGroundState g q (sort_view c.sort) (value_view c.value)
-    → AreCompared a c o → IsRightImplied g p q (result_at o)
-right_result g p q a c None sorted x y k = not_valid_is_right g p q (sort_view a.sort) (sort_view c.sort) (value_view a.value) (value_view c.value) x y k.compared
+    → IsComparedAs (sort_view a.sort) (value_view a.value) (value_view c.value) o → IsRightImplied g p q (result_at o)
+right_result g p q a c None sorted x y k = not_valid_is_right g p q (sort_view a.sort) (sort_view c.sort) (value_view a.value) (value_view c.value) x y k
 right_result g p q a c (Some at) sorted x y k =
-    let there : IsGroundState g q (sort_view a.sort) (value_view c.value) = subst (λ (t : KoreSort). IsGroundState g q t (value_view c.value)) (sym k.same_sort) y in
-    let same : IsGroundState g q (sort_view a.sort) (value_view a.value) = subst (λ (w : Value). IsGroundState g q (sort_view a.sort) w) (sym k.compared.1) there in
-    subst (λ (t : KoreSort). IsRightImplied g p q (sides.valid (top t) (top t))) (sym k.compared.0) (valid_is_right g p q (sort_view a.sort) (value_view a.value) sorted x same)
+    let same : IsGroundState g q (sort_view c.sort) (value_view a.value) = subst (λ (w : Value). IsGroundState g q (sort_view c.sort) w) (sym k.1) y in
+    subst (λ (t : KoreSort). IsRightImplied g p q (sides.valid (top t) (top t))) (sym k.0) (valid_is_right g p q (sort_view a.sort) (sort_view c.sort) (value_view a.value) sorted x same)
 
 pub is_told : (s : ServedTheory) (name : Option Text) (p q : KorePattern) (sort other : KoreSort) (a c : GroundState) → ¬ IsElsewhere s.main name
-    → IsStateAt s.theory.signature p sort a → IsStateAt s.theory.signature q other c → sort_view a.sort ≡ sort_view c.sort → ¬ IsImpliesUntold s name p q sort other
-is_told s name p q sort other a c here x y same (asked_elsewhere z) = here z
-is_told s name p q sort other a c here x y same (no_antecedent z) = x.shape z
-is_told s name p q sort other a c here x y same (no_consequent z) = y.shape z
-is_told s name p q sort other a c here x y same (other_sorts z) = z (sym x.sort_is ∙ (same ∙ y.sort_is))
+    → IsStateAt s.theory.signature p sort a → IsStateAt s.theory.signature q other c → ¬ IsImpliesUntold s name p q
+is_told s name p q sort other a c here x y (asked_elsewhere z) = here z
+is_told s name p q sort other a c here x y (no_antecedent z) = x.shape z
+is_told s name p q sort other a c here x y (no_consequent z) = y.shape z
+
+-- ---- terms without faults
+
+earlier_none : {A : Type 0} (x y : Option A) → earlier x y ≡ None → (x ≡ None) × (y ≡ None)
+earlier_none None y e = (refl, e)
+earlier_none (Some a) y e = absurd (cc e)
+
+alone_part : (g : KoreSignature) (q : KorePattern) → part_fault g q ≡ None → foreign_name g q ≡ None
+alone_part g (application f ss ps) e = by (foreign_name g (application f ss ps)) e
+  where
+    by : (o : Option Text) → option_map place.foreign_symbol o ≡ None → o ≡ None
+    by None h = refl
+    by (Some n) h = absurd (cc h)
+alone_part g _ e = refl
+
+none_among : (g : KoreSignature) (qs : List KorePattern) → first_among (part_fault g) qs ≡ None → first_member (filter_map (foreign_name g) qs) ≡ None
+none_among g [] e = refl
+none_among g (q ∷ qs) e =
+    let both = earlier_none (part_fault g q) (first_among (part_fault g) qs) e in
+    ap (λ o. first_member (cons_option o (filter_map (foreign_name g) qs))) (alone_part g q both.0) ∙ none_among g qs both.1
+
+-- no foreign symbol stands in a term in which nothing is misplaced
+none_foreign : (g : KoreSignature) (p : KorePattern) → is_term p ≡ true → side_fault g p ≡ None → first_foreign g p ≡ None
+none_foreign g (variable x s) h e = refl
+none_foreign g (literal s x) h e = refl
+none_foreign g (application f ss ps) h e =
+    let p = application f ss ps in
+    let alone : state_fault g p ≡ None = subst (λ b. (if is_some (only_one (if b then p ∷ [] else [])) then state_fault g p else option_map place.foreign_symbol (first_foreign g p)) ≡ None) h e in
+    none_among g (subpatterns p) (earlier_none (member_fault g false p) (members_fault g true []) alone).0
+none_foreign g _ h e = absurd (cc)
+
+pub other_if_foreign : (g : KoreSignature) (p : KorePattern) (name : Text) → IsFaultlessTerm g p → first_foreign g p ≡ Some name → IsOtherShape g p
+other_if_foreign g p name clear found = by (is_term p) refl
+  where
+    by : (b : Bool) → is_term p ≡ b → IsOtherShape g p
+    by false e = no_term e
+    by true e =
+        let both : None ≡ Some name = sym (none_foreign g p e (clear e)) ∙ found in
+        absurd (cc both)
+
+pub term_of_body : (g : KoreSignature) (p : KorePattern) → side_fault g (under_binders p) ≡ None → IsFaultlessTerm g p
+term_of_body g p clear e = subst (λ q. side_fault g q ≡ None) (binds_nothing p e).body clear
 
 -- ---- lines of results
 

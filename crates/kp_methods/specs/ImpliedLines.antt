@@ -4,17 +4,21 @@ use Rattle.serde_json.specs.Data.{Data}
 use Rattle.kp_kore.specs.Syntax.{Text, KoreSort, KorePattern}
 use Rattle.kp_kore.specs.Signature.{KoreSignature}
 use Rattle.kp_json.specs.Faults.{Reading, read, fault, TreeFault}
-use Rattle.kp_signature.specs.Verify.{VerifiesAs}
-use Rattle.kp_compile.specs.declared.state.GroundState.{GroundState}
+use Rattle.kp_clauses.specs.Faults as place
 use Rattle.kp_rpc.specs.Request.{RequestId}
-use Rattle.kp_rpc.specs.Reply.{no_pattern, error_reply, result_reply, reply_bytes}
-use Rattle.kp_rpc.specs.View.{state_fault_view}
+use Rattle.kp_rpc.specs.Reply.{PatternRefusal, foreign_symbol, other_shape, no_pattern, error_reply, result_reply, reply_bytes}
+use Rattle.kp_rpc.specs.View.{pattern_fault_view, state_fault_view}
+use Rattle.kp_rpc.specs.declared.fault.StateFault.TheVariants as state
+use Rattle.kp_replies.specs.Failures.{bad_sides, failure_reply}
 use Rattle.kp_replies.specs.Written.{implied_tree}
+use Rattle.kp_sides.specs.Sides.{SidesFault, IsSidesFault, AreComparable}
+use Rattle.kp_sides.specs.View.{sides_fault_view}
 use Rattle.kp_methods.specs.ServedTheory.{ServedTheory}
-use Rattle.kp_methods.specs.Sides.{IsSideState, AreBothCompared, result_at}
-use Rattle.kp_methods.specs.declared.failure.PatternFailure.{PatternFailure}
+use Rattle.kp_methods.specs.Sides.{AreCompared, result_at}
 use Rattle.kp_methods.specs.declared.failure.PatternFailure.TheVariants as failure
-use Rattle.kp_methods.specs.Implied.{IsImpliedAs, IsImpliesError}
+use Rattle.kp_methods.specs.declared.sides.ImpliesFailure.{ImpliesFailure}
+use Rattle.kp_methods.specs.declared.sides.ImpliesFailure.TheVariants as sides
+use Rattle.kp_methods.specs.Implied.{AreFaultless, IsImpliedAs, IsImpliesError, IsSideRefusal, told_fault}
 
 -- ---- lines
 
@@ -26,10 +30,15 @@ IsLineOf IsRight line = (reply : Data) × IsRight reply × (line ≡ reply_bytes
 abbrev pub IsLineOfSides : ServedTheory → RequestId → Option Text → Reading KorePattern → Reading KorePattern → List ℕ → Type 0
 IsLineOfSides s id asked antecedent consequent line = IsLineOf (IsImpliedAs s id asked antecedent consequent) line
 
+-- the line tells a fault of both sides
+abbrev pub IsSidesLine : RequestId → SidesFault → List ℕ → Type 0
+IsSidesLine id f line = IsLineOf (λ reply. failure_reply id (bad_sides (told_fault f)) ≡ Some reply) line
+
 -- the line tells a fault; want of memory has none
-abbrev pub IsFaultLine : RequestId → PatternFailure → List ℕ → Type 0
-IsFaultLine id failure.Memory line = ⊥
-IsFaultLine id (failure.Fault f) line = line ≡ reply_bytes (error_reply id (state_fault_view f))
+abbrev pub IsFaultLine : RequestId → ImpliesFailure → List ℕ → Type 0
+IsFaultLine id (sides.Side failure.Memory) line = ⊥
+IsFaultLine id (sides.Side (failure.Fault f)) line = line ≡ reply_bytes (error_reply id (state_fault_view f))
+IsFaultLine id (sides.Sides f) line = IsSidesLine id (sides_fault_view f) line
 
 -- the line has the result of implies: valid at a sort, or not
 abbrev pub IsImpliedLine : RequestId → Option KoreSort → List ℕ → Type 0
@@ -38,33 +47,53 @@ IsImpliedLine id o line = (tree : Data) × (implied_tree (result_at o) ≡ Some 
 -- ---- what was read
 
 -- a failure tells the fault of the tree; want of memory tells nothing
-abbrev pub IsTreeFailure : Reading KorePattern → PatternFailure → Type 0
-IsTreeFailure state failure.Memory = ⊤
-IsTreeFailure state (failure.Fault f) = (x : TreeFault) × (state ≡ fault x) × (state_fault_view f ≡ no_pattern x)
+abbrev pub IsTreeFailure : Reading KorePattern → ImpliesFailure → Type 0
+IsTreeFailure state (sides.Side failure.Memory) = ⊤
+IsTreeFailure state (sides.Side (failure.Fault f)) = (x : TreeFault) × (state ≡ fault x) × (state_fault_view f ≡ no_pattern x)
+IsTreeFailure state (sides.Sides f) = ⊥
+
+-- how what can't stand in a side is told: T1, T2
+abbrev pub refusal_of : place.StateFault → PatternRefusal
+refusal_of (place.foreign_symbol name) = foreign_symbol name
+refusal_of place.other_shape = other_shape
+
+-- it tells what is wrong with one side by itself
+abbrev pub IsSideFailure : KoreSignature → KorePattern → KorePattern → ImpliesFailure → Type 0
+IsSideFailure g p body (sides.Side failure.Memory) = ⊤
+IsSideFailure g p body (sides.Side (failure.Fault (state.Json f))) = ⊥
+IsSideFailure g p body (sides.Side (failure.Fault (state.Verify f))) = IsSideRefusal g p body (pattern_fault_view f)
+IsSideFailure g p body (sides.Side (failure.Fault (state.NoModule name))) = ⊥
+IsSideFailure g p body (sides.Sides f) = ⊥
+
+-- it tells why two sides without a fault of their own aren't comparable
+abbrev pub IsBothFailure : KoreSignature → KorePattern → KorePattern → ImpliesFailure → Type 0
+IsBothFailure g a c (sides.Side failure.Memory) = ⊤
+IsBothFailure g a c (sides.Side (failure.Fault f)) = ⊥
+IsBothFailure g a c (sides.Sides f) = IsSidesFault g a c (sides_fault_view f)
+
+-- two patterns were read that have no fault of their own, and this one together
+pub record AreIncomparable (g : KoreSignature) (antecedent consequent : Reading KorePattern) (f : SidesFault) : Type 0 where
+  pub left : KorePattern
+  pub right : KorePattern
+  pub is_left : antecedent ≡ read left
+  pub is_right : consequent ≡ read right
+  pub faultless : AreFaultless g left right
+  pub wrong : IsSidesFault g left right f
 
 -- it tells what is wrong with the sides of implies
-abbrev pub IsSidesFailure : ServedTheory → Option Text → Reading KorePattern → Reading KorePattern → PatternFailure → Type 0
-IsSidesFailure s asked antecedent consequent failure.Memory = ⊤
-IsSidesFailure s asked antecedent consequent (failure.Fault f) = IsImpliesError s asked antecedent consequent (state_fault_view f)
-
--- the pattern verifies without foreign symbols, and is this ground state if it is one
-pub record IsSideOf (g : KoreSignature) (p : KorePattern) (found : Option GroundState) : Type 0 where
-  pub sort : KoreSort
-  pub verifies : VerifiesAs g p sort
-  pub is_state : IsSideState g p sort found
-
--- what was read is a pattern
-pub record IsSideRead (g : KoreSignature) (side : Reading KorePattern) (found : Option GroundState) : Type 0 where
-  pub pattern : KorePattern
-  pub is_read : side ≡ read pattern
-  pub is_of : IsSideOf g pattern found
+abbrev pub IsSidesFailure : ServedTheory → Option Text → Reading KorePattern → Reading KorePattern → ImpliesFailure → Type 0
+IsSidesFailure s asked antecedent consequent (sides.Side failure.Memory) = ⊤
+IsSidesFailure s asked antecedent consequent (sides.Side (failure.Fault f)) = IsImpliesError s asked antecedent consequent (state_fault_view f)
+IsSidesFailure s asked antecedent consequent (sides.Sides f) = AreIncomparable s.theory.signature antecedent consequent (sides_fault_view f)
 
 -- ---- results
 
 -- the sides are compared so: at this sort, or as other values
 pub record IsImpliedOf (g : KoreSignature) (antecedent consequent : Reading KorePattern) (o : Option KoreSort) : Type 0 where
-  pub left : Option GroundState
-  pub right : Option GroundState
-  pub is_left : IsSideRead g antecedent left
-  pub is_right : IsSideRead g consequent right
-  pub compared : AreBothCompared left right o
+  pub left : KorePattern
+  pub right : KorePattern
+  pub is_left : antecedent ≡ read left
+  pub is_right : consequent ≡ read right
+  pub faultless : AreFaultless g left right
+  pub comparable : AreComparable g left right
+  pub compared : AreCompared g left right faultless.sort faultless.other o

@@ -9,10 +9,10 @@ use Rattle.kp_kore.specs.Syntax.{KoreSort, KorePattern}
 use Rattle.kp_kore.specs.Signature.{KoreSignature}
 use Rattle.kp_signature.specs.Verify.{FailsWith, VerifiesAs}
 use Rattle.kp_compile.specs.Spelled.{first_foreign}
-use Rattle.kp_rpc.specs.Request.{ExecuteRequest, ImpliesRequest}
+use Rattle.kp_rpc.specs.Request.{ExecuteRequest}
 use Rattle.kp_rpc.specs.Reply.{PatternRefusal, unverified, foreign_symbol, other_shape}
 use Rattle.kp_methods.specs.ServedTheory.{ServedTheory}
-use Rattle.kp_methods.specs.Untold.{IsUntold, IsImpliesUntold}
+use Rattle.kp_methods.specs.Untold.{IsUntold}
 
 -- ---- replies with a result
 
@@ -32,18 +32,6 @@ IsPatternFault g LeftOut p (unverified f) = FailsWith g p f
 IsPatternFault g LeftOut p (foreign_symbol name) = (s : KoreSort) × VerifiesAs g p s × (first_foreign g p ≡ Some name)
 IsPatternFault g LeftOut p other_shape = (s : KoreSort) × VerifiesAs g p s × (first_foreign g p ≡ None) × LeftOut p s
 
--- ---- implies
-
 -- no pattern is left out for a cause of its own
 abbrev pub NoneLeftOut : KorePattern → KoreSort → Type 0
 NoneLeftOut p sort = ⊥
-
--- both sides that a request gives verify and have no foreign symbol, and no cause why no result is told
-pub record IsImpliesTold (s : ServedTheory) (request : ImpliesRequest) : Type 0 where
-  pub sort : KoreSort
-  pub other : KoreSort
-  pub antecedent_verifies : VerifiesAs s.theory.signature request.antecedent sort
-  pub consequent_verifies : VerifiesAs s.theory.signature request.consequent other
-  pub antecedent_no_foreign : first_foreign s.theory.signature request.antecedent ≡ None
-  pub consequent_no_foreign : first_foreign s.theory.signature request.consequent ≡ None
-  pub told : ¬ IsImpliesUntold s request.module_name request.antecedent request.consequent sort other

@@ -1,28 +1,33 @@
 -- What is told between a request of implies and its reply; for private clauses.
-use Rattle.std.specs.Prelude.{◌≡◌, ◌≢◌, Option, Some, None, ⊤}
+use Rattle.std.specs.Prelude.{◌≡◌, ◌≢◌, ◌⊎◌, Option, Some, None, ⊤, true}
 use Rattle.kp_kore.specs.Syntax.{KoreSort, KorePattern, top}
+use Rattle.kp_kore.specs.Parts.{is_term}
 use Rattle.kp_kore.specs.Signature.{KoreSignature}
 use Rattle.kp_kore.specs.View.{sort_view}
 use Rattle.kp_kore.specs.Implied.{Implied, not_valid, valid}
 use Rattle.kp_kore.specs.Value.{Value}
 use Rattle.kp_ground.specs.View.{value_view}
-use Rattle.kp_compile.specs.Spelled.{IsOtherShape, first_foreign}
+use Rattle.kp_compile.specs.Spelled.{IsOtherShape}
 use Rattle.kp_compile.specs.declared.state.GroundState.{GroundState}
 use Rattle.kp_rpc.specs.Reply.{not_verified, other_shape}
 use Rattle.kp_rpc.specs.View.{state_fault_view}
+use Rattle.kp_sides.specs.Sides.{side_fault}
 use Rattle.kp_methods.specs.Ends.{IsStateAt}
-use Rattle.kp_methods.specs.declared.failure.PatternFailure.{PatternFailure}
 use Rattle.kp_methods.specs.declared.failure.PatternFailure.TheVariants as failure
+use Rattle.kp_methods.specs.declared.sides.ImpliesFailure.{ImpliesFailure}
+use Rattle.kp_methods.specs.declared.sides.ImpliesFailure.TheVariants as sides
 
--- ---- sides
+-- ---- one side
 
--- the ground state that a verified pattern of this sort is, or none where it has another shape
-abbrev pub IsShaped : KoreSignature → KorePattern → KoreSort → Option GroundState → Type 0
-IsShaped g p sort None = IsOtherShape g p
-IsShaped g p sort (Some state) = IsStateAt g p sort state
+-- where it is a term, nothing in it can't stand there
+abbrev pub IsFaultlessTerm : KoreSignature → KorePattern → Type 0
+IsFaultlessTerm g p = is_term p ≡ true → side_fault g p ≡ None
 
-abbrev pub IsSideState : KoreSignature → KorePattern → KoreSort → Option GroundState → Type 0
-IsSideState g p sort o = (first_foreign g p ≡ None) × IsShaped g p sort o
+-- T2, of a pattern that is no ground state; want of memory tells nothing
+abbrev pub IsShapeTold : Type 0 → ImpliesFailure → Type 0
+IsShapeTold Other (sides.Side failure.Memory) = ⊤
+IsShapeTold Other (sides.Side (failure.Fault f)) = (state_fault_view f ≡ not_verified other_shape) × Other
+IsShapeTold Other (sides.Sides f) = ⊥
 
 -- ---- what is compared
 
@@ -31,23 +36,17 @@ abbrev pub IsComparedAs : KoreSort → Value → Value → Option KoreSort → T
 IsComparedAs sort u w None = u ≢ w
 IsComparedAs sort u w (Some at) = (at ≡ sort) × (u ≡ w)
 
--- two states of one sort
-pub record AreCompared (a c : GroundState) (o : Option KoreSort) : Type 0 where
-  pub same_sort : sort_view a.sort ≡ sort_view c.sort
-  pub compared : IsComparedAs (sort_view a.sort) (value_view a.value) (value_view c.value) o
+-- the two patterns are ground states, and their values are compared so
+pub record AreCompared (g : KoreSignature) (p q : KorePattern) (sort other : KoreSort) (o : Option KoreSort) : Type 0 where
+  pub antecedent : GroundState
+  pub consequent : GroundState
+  pub is_antecedent : IsStateAt g p sort antecedent
+  pub is_consequent : IsStateAt g q other consequent
+  pub compared : IsComparedAs (sort_view antecedent.sort) (value_view antecedent.value) (value_view consequent.value) o
 
-abbrev pub AreBothCompared : Option GroundState → Option GroundState → Option KoreSort → Type 0
-AreBothCompared (Some a) (Some c) o = AreCompared a c o
-AreBothCompared _ _ o = ⊥
-
--- two states of other sorts, or a side that is no state
-abbrev pub AreApart : Option GroundState → Option GroundState → Type 0
-AreApart (Some a) (Some c) = sort_view a.sort ≢ sort_view c.sort
-AreApart _ _ = ⊤
-
-abbrev pub AreNotCompared : Option GroundState → Option GroundState → PatternFailure → Type 0
-AreNotCompared a c failure.Memory = ⊤
-AreNotCompared a c (failure.Fault f) = (state_fault_view f ≡ not_verified other_shape) × AreApart a c
+-- one of them is none
+abbrev pub IsEitherOther : KoreSignature → KorePattern → KorePattern → Type 0
+IsEitherOther g p q = IsOtherShape g p ⊎ IsOtherShape g q
 
 -- ---- lines
 

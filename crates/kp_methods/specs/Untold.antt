@@ -1,6 +1,6 @@
 -- Why no result is told of what has no fault: what stands outside a service of ground terms, and is told as T2.
 -- Source: this project.
-use Rattle.std.specs.Prelude.{◌≡◌, ◌≢◌, ◌⊎◌, [], ◌++◌, Option}
+use Rattle.std.specs.Prelude.{◌≡◌, ◌⊎◌, [], ◌++◌, Option}
 use Rattle.kp_kore.specs.Syntax.{Text, KoreSort, KorePattern}
 use Rattle.kp_kore.specs.Value.{Value}
 use Rattle.kp_kore.specs.Instance.{Valuation, instance}
@@ -21,10 +21,8 @@ pub data IsUntold (s : ServedTheory) (options : ExecuteOptions) (p : KorePattern
 
 -- ---- implies
 
--- why no result is told of two sides without a fault, of these sorts: another module than main is named; a side is no
--- ground state; their sorts differ
-pub data IsImpliesUntold (s : ServedTheory) (name : Option Text) (a c : KorePattern) (sort other : KoreSort) : Type 0 where
-  asked_elsewhere : IsElsewhere s.main name → IsImpliesUntold s name a c sort other
-  no_antecedent : IsOtherShape s.theory.signature a → IsImpliesUntold s name a c sort other
-  no_consequent : IsOtherShape s.theory.signature c → IsImpliesUntold s name a c sort other
-  other_sorts : sort ≢ other → IsImpliesUntold s name a c sort other
+-- why no result is told of two sides without a fault: another module than main is named; a side is no ground state
+pub data IsImpliesUntold (s : ServedTheory) (name : Option Text) (a c : KorePattern) : Type 0 where
+  asked_elsewhere : IsElsewhere s.main name → IsImpliesUntold s name a c
+  no_antecedent : IsOtherShape s.theory.signature a → IsImpliesUntold s name a c
+  no_consequent : IsOtherShape s.theory.signature c → IsImpliesUntold s name a c

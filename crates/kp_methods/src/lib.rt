@@ -21,5 +21,5 @@ pub use implies::implied_line;
 pub use prepared::Prepared;
 pub use results::{implied_at, result_of};
 pub use rules::rules_of;
-pub use sides::{compared_sides, not_answered, side_state};
+pub use sides::{ImpliesFailure, compared_sides, not_answered};
 pub use simplify::{simplified_line, unverified_line};

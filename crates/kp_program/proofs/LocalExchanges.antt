@@ -17,7 +17,7 @@ use Rattle.kp_rpc.specs.Reply.{RequestError, foreign_symbol, other_shape, no_mod
 use Rattle.kp_rpc.proofs.ReadBack.{Back, IsBack, reply_back, wrapped_back}
 use Rattle.kp_results.specs.Results.{NextParts, Ending, vacuous, depth_bound, stuck, branching, cut_point, terminal, aborted, ExecutedParts, IsNextOf, IsReasonOf, StateParts, Undecided}
 use Rattle.kp_replies.specs.Aborted.{aborted_tree}
-use Rattle.kp_replies.specs.Failures.{Failure, undecided, failure_data, failure_error, failed_reply, failure_reply}
+use Rattle.kp_replies.specs.Failures.{Failure, bad_sides, undecided, failure_data, failure_error, failed_reply, failure_reply}
 use Rattle.kp_replies.specs.Read.{execute, implies, executed, UnfinishedParts, unfinished, implied, failed, read_reply}
 use Rattle.kp_replies.specs.Replies.{IsReplyOf, StandWith, unfinished_parts}
 use Rattle.kp_replies.specs.RightReplies.{asked_options, IsMainAsked}
@@ -258,6 +258,7 @@ implication_told o t frame book s id name p q d u a r =
 implication_replied : (o : Opening) (t : Theory) (frame : List ℕ) (book : List Registration) (s : ServedTheory) (id : RequestId) (name : Option Text) (left right : Reading KorePattern) (d : Data) →
     (u : Setup o t frame book s name) → IsAsked u.tree id (requests.implies left right name) → IsImpliedAs s id name left right d → IsRightExchange (told_theory o t) (record { frame = frame; reply = reply_bytes d })
 implication_replied o t frame book s id name _ _ _ u a (implication.bad_sides left right e wrong) = with_nothing (told_theory o t) frame _ (error_told id e)
+implication_replied o t frame book s id name _ _ _ u a (implication.incomparable p q f d faultless wrong made) = with_nothing (told_theory o t) frame (reply_bytes d) (failure_told id (bad_sides (implication.told_fault f)) d made)
 implication_replied o t frame book s id name _ _ _ u a (implication.implied p q d r) = implication_told o t frame book s id name p q d u a r
 
 -- ---- simplify

@@ -81,6 +81,47 @@ const V2: &str =
 const J1: &str =
     r#""code":1,"data":{"kind":"J1","name":"Nope"},"message":"Could not parse pattern""#;
 
+/// `\top`, which has no term.
+const TOP: &str = r#"{"sort":{"args":[],"name":"SortS","tag":"SortApp"},"tag":"Top"}"#;
+
+/// The count of a variable.
+const COUNT_OF_Y: &str =
+    r#"{"args":[{"name":"Y","sort":{"args":[],"name":"SortInt","tag":"SortApp"},"tag":"EVar"}],"name":"Lblcount","sorts":[],"tag":"App"}"#;
+
+/// The count of some number.
+const SOME_COUNT: &str =
+    r#"{"arg":{"args":[{"name":"Y","sort":{"args":[],"name":"SortInt","tag":"SortApp"},"tag":"EVar"}],"name":"Lblcount","sorts":[],"tag":"App"},"sort":{"args":[],"name":"SortS","tag":"SortApp"},"tag":"Exists","var":"Y","varSort":{"args":[],"name":"SortInt","tag":"SortApp"}}"#;
+
+/// `\exists` of a variable that stands in a predicate alone.
+const IDLE: &str =
+    r#"{"arg":{"patterns":[{"args":[],"name":"Lbldone","sorts":[],"tag":"App"},{"argSort":{"args":[],"name":"SortInt","tag":"SortApp"},"first":{"name":"Y","sort":{"args":[],"name":"SortInt","tag":"SortApp"},"tag":"EVar"},"second":{"name":"X","sort":{"args":[],"name":"SortInt","tag":"SortApp"},"tag":"EVar"},"sort":{"args":[],"name":"SortS","tag":"SortApp"},"tag":"Equals"}],"sort":{"args":[],"name":"SortS","tag":"SortApp"},"tag":"And"},"sort":{"args":[],"name":"SortS","tag":"SortApp"},"tag":"Exists","var":"Y","varSort":{"args":[],"name":"SortInt","tag":"SortApp"}}"#;
+
+/// The count of some number, under two binders of one name.
+const HIDDEN: &str =
+    r#"{"arg":{"arg":{"args":[{"name":"Y","sort":{"args":[],"name":"SortInt","tag":"SortApp"},"tag":"EVar"}],"name":"Lblcount","sorts":[],"tag":"App"},"sort":{"args":[],"name":"SortS","tag":"SortApp"},"tag":"Exists","var":"Y","varSort":{"args":[],"name":"SortInt","tag":"SortApp"}},"sort":{"args":[],"name":"SortS","tag":"SortApp"},"tag":"Exists","var":"Y","varSort":{"args":[],"name":"SortInt","tag":"SortApp"}}"#;
+
+/// A term beside a predicate of a variable that is no number.
+const OTHER_SORT: &str =
+    r#"{"patterns":[{"args":[],"name":"Lbldone","sorts":[],"tag":"App"},{"argSort":{"args":[],"name":"SortS","tag":"SortApp"},"first":{"name":"Y","sort":{"args":[],"name":"SortS","tag":"SortApp"},"tag":"EVar"},"second":{"args":[],"name":"Lbldone","sorts":[],"tag":"App"},"sort":{"args":[],"name":"SortS","tag":"SortApp"},"tag":"Equals"}],"sort":{"args":[],"name":"SortS","tag":"SortApp"},"tag":"And"}"#;
+
+/// A term beside an `\or` of terms.
+const MISPLACED: &str =
+    r#"{"patterns":[{"args":[],"name":"Lbldone","sorts":[],"tag":"App"},{"patterns":[{"args":[],"name":"Lbldone","sorts":[],"tag":"App"},{"args":[],"name":"Lbldone","sorts":[],"tag":"App"}],"sort":{"args":[],"name":"SortS","tag":"SortApp"},"tag":"Or"}],"sort":{"args":[],"name":"SortS","tag":"SortApp"},"tag":"And"}"#;
+
+/// No term, and a foreign symbol in a predicate.
+const OTHER_BESIDE: &str =
+    r#"{"argSort":{"args":[],"name":"SortS","tag":"SortApp"},"first":{"args":[{"args":[{"sort":{"args":[],"name":"SortInt","tag":"SortApp"},"tag":"DV","value":"1"}],"name":"Lblother","sorts":[],"tag":"App"}],"name":"Lblcount","sorts":[],"tag":"App"},"second":{"args":[],"name":"Lbldone","sorts":[],"tag":"App"},"sort":{"args":[],"name":"SortS","tag":"SortApp"},"tag":"Equals"}"#;
+
+/// An `\or` of terms, and a term with a foreign symbol.
+const FOREIGN_BEHIND: &str =
+    r#"{"patterns":[{"args":[],"name":"Lbldone","sorts":[],"tag":"App"},{"patterns":[{"args":[],"name":"Lbldone","sorts":[],"tag":"App"},{"args":[],"name":"Lbldone","sorts":[],"tag":"App"}],"sort":{"args":[],"name":"SortS","tag":"SortApp"},"tag":"Or"},{"argSort":{"args":[],"name":"SortInt","tag":"SortApp"},"first":{"args":[{"sort":{"args":[],"name":"SortInt","tag":"SortApp"},"tag":"DV","value":"1"}],"name":"Lblother","sorts":[],"tag":"App"},"second":{"name":"X","sort":{"args":[],"name":"SortInt","tag":"SortApp"},"tag":"EVar"},"sort":{"args":[],"name":"SortS","tag":"SortApp"},"tag":"Equals"}],"sort":{"args":[],"name":"SortS","tag":"SortApp"},"tag":"And"}"#;
+
+const I1: &str = r#""code":4,"data":{"kind":"I1","name":"Y"},"message":"Implication check error""#;
+
+const I2: &str = r#""code":4,"data":{"kind":"I2"},"message":"Implication check error""#;
+
+const I3: &str = r#""code":4,"data":{"kind":"I3","name":"Y"},"message":"Implication check error""#;
+
 const NO_MODULE: &str = r#""code":3,"data":{"name":"NOPE"},"message":"Could not find module""#;
 
 const PARAMS: &str = r#""code":-32602,"message":"Invalid params""#;
@@ -161,7 +202,7 @@ fn is_answered<R: Wait>(
 }
 
 /// What is asked, and what is replied.
-static ROWS: [(Asked, Reply); 40] = [
+static ROWS: [(Asked, Reply); 52] = [
     // runs end as they are told
     (
         Asked::Run("Lblcount", "+2", ""),
@@ -281,7 +322,20 @@ static ROWS: [(Asked, Reply); 40] = [
     (Asked::Implies(DONE, FOREIGN, ""), Reply::Error(T1)),
     (Asked::Implies(OPEN, NOPE, ""), Reply::Error(V2)),
     (Asked::Implies(OPEN, DONE, ""), Reply::Error(T2)),
-    (Asked::Implies(DONE, ONE, ""), Reply::Error(T2)),
+    (Asked::Implies(OPEN, SOME_COUNT, ""), Reply::Error(T2)),
+    (Asked::Implies(MISPLACED, NOPE, ""), Reply::Error(T2)),
+    (Asked::Implies(FOREIGN_BEHIND, DONE, ""), Reply::Error(T2)),
+    (Asked::Implies(OTHER_BESIDE, DONE, ""), Reply::Error(T1)),
+    // then those of both sides
+    (Asked::Implies(DONE, IDLE, ""), Reply::Error(I1)),
+    (Asked::Implies(TOP, IDLE, ""), Reply::Error(I1)),
+    (Asked::Implies(DONE, HIDDEN, ""), Reply::Error(I1)),
+    (Asked::Implies(TOP, DONE, ""), Reply::Error(I2)),
+    (Asked::Implies(DONE, TOP, ""), Reply::Error(I2)),
+    (Asked::Implies(DONE, ONE, ""), Reply::Error(I2)),
+    (Asked::Implies(ONE, SOME_COUNT, ""), Reply::Error(I2)),
+    (Asked::Implies(COUNT_OF_Y, SOME_COUNT, ""), Reply::Error(I3)),
+    (Asked::Implies(COUNT_OF_Y, OTHER_SORT, ""), Reply::Error(I3)),
     (
         Asked::Implies(NOPE, DONE, r#","module":"NOPE""#),
         Reply::Error(NO_MODULE),
@@ -308,7 +362,7 @@ fn holding<R: Wait>(rt: &R, alloc: Global) -> usize {
 #[test]
 fn requests_have_their_replies(rt: HostRuntime) {
     let place = holding(&rt, rt.alloc());
-    assert!(rt; place == 40, "row {place}");
+    assert!(rt; place == 52, "row {place}");
 }
 
 /// A command and its file, what the file `d.kore` has, and what is told.

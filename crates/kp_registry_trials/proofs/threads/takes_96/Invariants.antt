@@ -1,0 +1,5 @@
+use Rattle.kp_registry.specs.Registries.{IsPassOf}
+use Rattle.kp_registry_trials.proofs.threads.takes_96.Given as goal
+
+abbrev pub invariant-loop-k : goal.invariant-loop-k
+invariant-loop-k g l = IsPassOf l.registry l.pass
