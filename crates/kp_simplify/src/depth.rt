@@ -111,8 +111,8 @@ fn deep_literal(
     Ok(None)
 }
 
-/// The first in clauses.
-fn deep_clause(
+/// The levels of the first side of an equality in clauses that has more than a term may have.
+pub fn deep_clause(
     alloc: Global,
     language: &Language,
     clauses: &[Clause],
