@@ -1,8 +1,8 @@
-# Look-ups in a full book, and whether entering a module takes memory.
+# Look-ups in a full book, and whether they, or entering a module, take memory.
 # python3 looks.py crate   writes the crate crates/looks, whose tests are the program; to be added to crates.txt as
 #                          looks tests_may=Threads+Wait: and kp_kore kp_text kp_rule_sets kp_modules kp_registry
 # python3 looks.py run PROGRAM LIBRARY   times 10,000,000 look-ups, and counts the allocations of 4,096 modules that are
-#                          made and entered and of as many that are made and let go. PROGRAM is the crate's tests, built
+#                          made and entered, of as many that are made and let go, and of the look-ups. PROGRAM is the crate's tests, built
 #                          natively; LIBRARY is refuse.so (refuse.c says how it is built)
 import os, re, resource, subprocess, sys
 
@@ -135,8 +135,10 @@ def counted(program, library, test):
 def run(program, library):
     looks, full = (processor(program, f"looks::{it}") for it in ("ten_million_look_ups", "modules_are_entered"))
     print(f"10,000,000 look-ups: {looks - full:.2f} s of a processor")
-    entered, made = (counted(program, os.path.abspath(library), f"looks::{it}") for it in ("modules_are_entered", "modules_are_made"))
+    tests = ("modules_are_made", "modules_are_entered", "ten_million_look_ups")
+    made, entered, looked = (counted(program, os.path.abspath(library), f"looks::{it}") for it in tests)
     print(f"allocations: {made} with 4,096 modules made, {entered} with as many entered: {'none' if entered == made else 'SOME'} by entering")
+    print(f"{looked} with 10,000,000 look-ups besides: {'none' if looked == entered else 'SOME'} by looking up")
 
 
 if sys.argv[1:] == ["crate"]:
