@@ -1,5 +1,5 @@
 -- From what was read of a request, and the end of its run, to its reply.
-use Rattle.std.proofs.Common.{◌≡◌, ◌⊎◌, ℕ, true, List, [], ◌∷◌, ◌++◌, Option, Some, None, Vec, ◌≢◌, refl, sym, ap, subst, ◌∙◌}
+use Rattle.std.proofs.Common.{◌≡◌, ℕ, true, List, [], ◌∷◌, ◌++◌, Option, Some, None, Vec, refl, sym, ap, subst, ◌∙◌}
 use Rattle.std.specs.Option.{option_map}
 use Rattle.std.specs.declared.alloc.Global.{Global}
 use Rattle.serde_json.specs.Data.{Data}
@@ -13,7 +13,6 @@ use Rattle.kp_kore.specs.Theory.{Theory}
 use Rattle.kp_rpc.specs.Request.{RequestId}
 use Rattle.kp_rpc.specs.Reply.{result_reply, reply_bytes}
 use Rattle.kp_results.specs.Results.{IsReasonOf}
-use Rattle.kp_rpc.specs.declared.fault.StateFault.TheVariants as fault
 use Rattle.kp_run.specs.Runs.{IsRunOf, reason_of}
 use Rattle.kp_compile.specs.Spelled.{IsSpellingOf}
 use Rattle.kp_run.specs.declared.run.GroundRun.{GroundRun}
@@ -21,7 +20,6 @@ use Rattle.kp_run.specs.declared.run.GroundEnding.{GroundEnding}
 use Rattle.kp_run.specs.declared.run.GroundEnding.TheVariants.{Stuck, DepthBound, ForeignRule}
 use Rattle.kp_methods.specs.Normal.{TellsFirst}
 use Rattle.kp_methods.specs.Ends.{ending_of}
-use Rattle.kp_methods.specs.declared.failure.PatternFailure.TheVariants as failure
 
 pub tells_first : (t : Theory) (c : Value) (bound : ℕ) (end : GroundRun) → IsRunOf t c bound end → TellsFirst t (ending_of end.stop) (value_view end.state.value)
 tells_first t c bound end run = by_stop end.stop refl

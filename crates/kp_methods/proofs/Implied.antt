@@ -27,12 +27,10 @@ use Rattle.kp_sides.specs.Sides.{side_fault}
 use Rattle.kp_rpc.specs.Reply.{reply_bytes, result_reply}
 use Rattle.kp_replies.specs.Written.{implied_tree}
 use Rattle.kp_rpc.specs.Request.{RequestId}
-use Rattle.kp_rpc.specs.declared.fault.StateFault.TheVariants as fault
 use Rattle.kp_methods.specs.Ends.{IsStateAt}
 use Rattle.kp_methods.specs.ServedTheory.{IsElsewhere, ServedTheory}
 use Rattle.kp_methods.specs.Untold.{IsImpliesUntold, asked_elsewhere, no_antecedent, no_consequent}
 use Rattle.kp_methods.specs.Sides.{IsComparedAs, IsFaultlessTerm, result_at}
-use Rattle.kp_methods.specs.declared.failure.PatternFailure.TheVariants as failure
 
 -- ---- ground terms
 

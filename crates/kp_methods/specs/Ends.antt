@@ -1,5 +1,5 @@
 -- What is told between a request and its reply; for private clauses.
-use Rattle.std.specs.Prelude.{◌≡◌, ◌⊎◌, [], Some, None, ⊤, string_bytes}
+use Rattle.std.specs.Prelude.{◌≡◌, [], Some, None, ⊤, string_bytes}
 use Rattle.kp_kore.specs.Syntax.{KoreSort, KorePattern}
 use Rattle.kp_kore.specs.Signature.{KoreSignature}
 use Rattle.kp_signature.specs.Verify.{FailsWith, VerifiesAs, VerifyFault}

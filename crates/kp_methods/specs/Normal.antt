@@ -1,7 +1,7 @@
 -- How the state of a reply is written: as the state that the rules lead to, in its normal spelling at the sort that they
 -- leave it at.
 -- Source: this project's normal form and its sorts of states.
-use Rattle.std.specs.Prelude.{◌≡◌, ◌≢◌, ◌<◌, ◌⊎◌, ℕ, ⊤}
+use Rattle.std.specs.Prelude.{◌≡◌, ℕ, ⊤}
 use Rattle.kp_kore.specs.Syntax.{KoreSort, KorePattern}
 use Rattle.kp_kore.specs.Value.{Value}
 use Rattle.kp_kore.specs.Instance.{Valuation, instance}

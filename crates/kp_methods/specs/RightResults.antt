@@ -4,7 +4,7 @@
 -- theory as the reply says.
 -- Source: K's rewriting (the theory and its runs), Kore JSON, JSON-RPC 2.0, the K Haskell backend's
 -- JSON-RPC documentation (execute, implies).
-use Rattle.std.specs.Prelude.{◌≡◌, ◌≤◌, ◌⊎◌, Some, None}
+use Rattle.std.specs.Prelude.{◌≡◌, Some, None}
 use Rattle.kp_kore.specs.Syntax.{KoreSort, KorePattern}
 use Rattle.kp_kore.specs.Signature.{KoreSignature}
 use Rattle.kp_signature.specs.Verify.{FailsWith, VerifiesAs}

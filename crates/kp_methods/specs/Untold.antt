@@ -1,6 +1,6 @@
 -- Why no result is told of what has no fault: what stands outside a service of ground terms, and is told as T2.
 -- Source: this project.
-use Rattle.std.specs.Prelude.{◌≡◌, ◌⊎◌, [], ◌++◌, Option}
+use Rattle.std.specs.Prelude.{◌≡◌, [], ◌++◌, Option}
 use Rattle.kp_kore.specs.Syntax.{Text, KoreSort, KorePattern}
 use Rattle.kp_kore.specs.Value.{Value}
 use Rattle.kp_kore.specs.Instance.{Valuation, instance}

@@ -1,4 +1,4 @@
-use Rattle.std.proofs.Common.{subst, string_bytes}
+use Rattle.std.proofs.Common.{subst}
 use Rattle.kp_compile.specs.Spelled.{first_foreign}
 use Rattle.kp_compile.specs.States.{IsTold}
 use Rattle.kp_methods.proofs.Implied.{other_if_foreign}
