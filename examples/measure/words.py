@@ -25,8 +25,8 @@ FIXED = {"LoadFault", "TreeFault", "ProveFault", "TermFault", "OutsideFault"}
 FIXED_NAMES = {("crates/kp_graph/src/tree.rt", "held")}
 LIMITS = [("48", "levels of a term", ""), ("256", "nesting of a text", ""), ("10_000", "steps", "MOST_STEPS"), ("10_000", "nodes", "MOST_NODES"), ("4_194_304", "bytes of a frame", "")]
 VAGUE = {"asked", "held", "right", "within", "put_in", "parts_read", "may_be"}
-# until the program reads its words by kp_command
-STANDING = {f"docs/DEFINITIONS.md: `{it}` is a type of kp_command, kp_program" for it in ("Command", "Prove", "Stdio")}
+# what is known to part from the words, and should go
+STANDING = set()
 found, clauses = set(), []
 
 

@@ -10,7 +10,7 @@ use Rattle.kp_imports.specs.Faults.{HasNoFault, IsFirstFault}
 use Rattle.kp_program.specs.Faults.{too_long, in_text, in_modules, in_claims, IsFileFault, IsFaultless}
 use Rattle.kp_program.specs.Statuses.{Ending, memory, exit_status, line_of, IsCause, Tells}
 use Rattle.kp_program.specs.Troubles.{EndsAs, IsFileAbsent, IsFaulty, IsLate, ending_of}
-use Rattle.kp_program.specs.Words.{NamesDefinition}
+use Rattle.kp_command.specs.Words.{NamesDefinition}
 use Rattle.kp_program.specs.declared.trouble.Trouble.{Trouble}
 use Rattle.kp_program.specs.declared.trouble.Trouble.TheVariants as trouble
 use Rattle.kp_kore.specs.Theory.{Theory, IsTheoryOf, modules_reached}

@@ -14,7 +14,7 @@ use Rattle.kp_program.specs.Faults.{IsClaimsFault, claim_code, too_long}
 use Rattle.kp_program.specs.Loaded.{IsLoaded}
 use Rattle.kp_program.specs.Statuses.{IsCause}
 use Rattle.kp_program.specs.Troubles.{AreFaulty, claim_fault_of, ending_of}
-use Rattle.kp_program.specs.Words.{ProveWords, SpellsProve}
+use Rattle.kp_command.specs.Words.{ProveWords, SpellsProve}
 use Rattle.kp_program.specs.declared.trouble.Trouble.{Trouble}
 use Rattle.kp_program.specs.declared.trouble.Trouble.TheVariants as trouble
 use Rattle.kp_program.proofs.Causes.{long_file}

@@ -1,5 +1,5 @@
 -- From the report of a command to the headline.
-use Rattle.std.proofs.Common.{◌≡◌, refl, sym, ◌∙◌, ap, subst, ℕ, List, [], ◌∷◌, ◌++◌, Option, Some, None, inl, inr, arith, ne_eqb}
+use Rattle.std.proofs.Common.{◌≡◌, refl, sym, ◌∙◌, ap, subst, ℕ, List, [], ◌∷◌, ◌++◌, Option, Some, None, inl, inr, ne_eqb}
 use Rattle.std.specs.Prelude.{codes, Bool, true, false, not, ◌==◌, ◌&&◌, nat_lt, length, if◌then◌else◌}
 use Rattle.std.specs.List.{AllByRecursion, AllZip, list_all}
 use Rattle.std.specs.Io.KnownBytes.{Appends}
@@ -21,7 +21,8 @@ use Rattle.kp_modules.specs.Openings.{opening_of}
 use Rattle.kp_program.specs.Does.{DoesWords}
 use Rattle.kp_program.specs.Headline.{HasClaimThatHolds, PassedHolds}
 use Rattle.kp_program.specs.Proofs.{IsLineFor, Proved}
-use Rattle.kp_program.specs.Words.{ProveWords, SpellsProve, SpellsStdio}
+use Rattle.kp_command.specs.Words.{ProveWords}
+use Rattle.kp_command.proofs.OneCommand.{not_both}
 
 -- ---- labels
 
@@ -111,14 +112,6 @@ found o t depth (x ∷ xs) (c ∷ cs) (l ∷ ls) label spelled told one (inr lat
 gained_is : (before after : Option (List ℕ)) (old gained report : List ℕ) → before ≡ Some old → after ≡ Some (old ++ gained) → Appends before after report → gained ≡ report
 gained_is before after old gained report b a g =
     append_cancel_left old gained report (subst (λ x. Appends (Some old) x report) a (subst (λ x. Appends x after report) b g))
-
-abbrev second_letter : List (List ℕ) → ℕ
-second_letter (program ∷ (letter ∷ letters) ∷ more) = letter
-second_letter _ = 0
-
-not_both : (words : List Text) (definition main : Text) (c : ProveWords) → SpellsStdio words definition main → SpellsProve words c → ⊥
-not_both words definition main c (program, is) (other, inl alone) = absurd (omega (arith, ap second_letter (sym is ∙ alone.0)))
-not_both words definition main c (program, is) (other, inr deep) = absurd (omega (arith, ap second_letter (sym is ∙ deep.1)))
 
 proved_holds : (names : Option Names) (before after : Option (List ℕ)) (c : ProveWords) (status : ℕ) (old gained label : List ℕ) → AreToldInOneLine →
     Proved names (Appends before after) c status → before ≡ Some old → after ≡ Some (old ++ gained) → HasLine (codes "passed " ++ label) gained → HasClaimThatHolds names c label

@@ -6,10 +6,11 @@ pub mod GroundClaims
 pub mod Headline
 pub mod LocalExchanges
 pub mod MainAnswers
+pub mod NoCommand
 pub mod PlainTexts
 pub mod Proving
 pub mod RequestsRead
 pub mod Served
 pub mod Spelled
 pub mod Theories
-pub mod WordsRead
+pub mod WordFaults

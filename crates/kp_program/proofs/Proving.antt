@@ -23,7 +23,7 @@ use Rattle.kp_modules.specs.declared.table.ModuleTable.{ModuleTable}
 use Rattle.kp_program.specs.Loaded.{IsLoaded}
 use Rattle.kp_program.specs.LocalTold.{IsLinkOver, IsTheoryOver, state_over}
 use Rattle.kp_program.specs.Proofs.{told_theory, IsRepliedBy, AreReported, IsLineFor, IsOutcome, Proved, proof_status}
-use Rattle.kp_program.specs.Words.{ProveWords}
+use Rattle.kp_command.specs.Words.{ProveWords}
 use Rattle.kp_program.specs.declared.trouble.Trouble.{Trouble}
 use Rattle.kp_program.proofs.LocalExchanges.{replied_is_right}
 use Rattle.kp_program.proofs.GroundClaims.{ground_claims}

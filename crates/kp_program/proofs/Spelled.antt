@@ -1,58 +1,27 @@
 -- Words, causes and statuses.
-use Rattle.std.proofs.Common.{◌≡◌, ◌≤◌, ◌⊎◌, ℕ, List, [], ◌∷◌, Option, Some, None, IfSome, inl, inr, refl, sym, ap, subst, ◌∙◌, arith, codes, string_bytes, flat_map}
+use Rattle.std.proofs.Common.{◌≡◌, ◌≤◌, ◌⊎◌, ℕ, List, Option, Some, None, IfSome, inl, inr, refl, sym, ap, subst, ◌∙◌, arith, codes, string_bytes, flat_map}
 use Rattle.kp_kore.specs.Syntax.{KoreModule, KoreDefinition}
 use Rattle.kp_kore.specs.Signature.{KoreSignature, signature_of}
 use Rattle.kp_io.specs.Outside.{Names}
 use Rattle.kp_kore.specs.Theory.{modules_reached}
 use Rattle.kp_text.specs.Spelling.{SpellsDefinition}
 use Rattle.kp_text.proofs.CompleteModules.{one_definition}
-use Rattle.kp_program.specs.Commands.{IsCommand, prove_view}
+use Rattle.kp_command.specs.Commands.{IsCommand, prove_view}
 use Rattle.kp_program.specs.Does.{BeginsWords}
 use Rattle.kp_program.specs.Proofs.{Proved}
 use Rattle.kp_program.specs.Served.{BreaksFile, GainsFront}
-use Rattle.kp_program.specs.declared.command.Command.{Command}
-use Rattle.kp_program.specs.declared.command.Command.TheVariants as command
+use Rattle.kp_command.specs.declared.command.Command.{Command}
+use Rattle.kp_command.specs.declared.command.Command.TheVariants as command
 use Rattle.kp_program.specs.Faults.{FileFault, IsFileFault, IsClaimsFault}
 use Rattle.kp_program.specs.Loaded.{IsLoaded}
 use Rattle.kp_program.specs.Statuses.{Ending, usage, memory, exit_status, IsCause, IsEnded, IsFaultyDefinition, AreClaimsOf, AreFaultyClaims, IsNowhere, IsServable, IsProvable, IsPossible, Tells}
 use Rattle.kp_program.specs.Troubles.{EndsAs, file_fault_view, ending_of}
-use Rattle.kp_program.specs.Words.{ProveWords, SpellsStdio, SpellsProve, SpellsSome, NamesDefinition, prove_words}
+use Rattle.kp_command.specs.Words.{ProveWords, AreFaultless, SpellsStdio, SpellsProve, SpellsSome, NamesDefinition}
+use Rattle.kp_command.proofs.OneCommand.{not_both, same_command, same_files}
 use Rattle.kp_program.specs.declared.trouble.Trouble.{Trouble}
 use Rattle.kp_program.specs.declared.trouble.Trouble.TheVariants as trouble
 
 -- ---- words
-
--- words spell at most one command
-pub same_command : (words : List (List ℕ)) (d e m n : List ℕ) → SpellsStdio words d m → SpellsStdio words e n → (d ≡ e) × (m ≡ n)
-same_command words d e m n s r = let told = sym s.1 ∙ r.1 in (cc, cc)
-
--- the words of prove, with what stands behind them
-record BeginsProve (words : List (List ℕ)) (c : ProveWords) : Type 0 where
-  program : List ℕ
-  more : List (List ℕ)
-  are : words ≡ prove_words program c more
-
-begins_prove : (words : List (List ℕ)) (c : ProveWords) → SpellsProve words c → BeginsProve words c
-begins_prove words c (program, inl x) = record { program = program; more = []; are = x.0 }
-begins_prove words c (program, inr x) = record { program = program; more = codes "--max-depth" ∷ x.0 ∷ []; are = x.1 }
-
-record SameFiles (c d : ProveWords) : Type 0 where
-  definition : c.definition ≡ d.definition
-  main : c.main ≡ d.main
-  claims : c.claims ≡ d.claims
-
-same_files : (words : List (List ℕ)) (c d : ProveWords) → SpellsProve words c → SpellsProve words d → SameFiles c d
-same_files words c d s r =
-    let x = begins_prove words c s in
-    let y = begins_prove words d r in
-    let told = sym x.are ∙ y.are in
-    record { definition = cc; main = cc; claims = cc }
-
-pub not_both : (words : List (List ℕ)) (d m : List ℕ) (c : ProveWords) → SpellsStdio words d m → SpellsProve words c → ⊥
-not_both words d m c s r =
-    let x = begins_prove words c r in
-    let told = sym s.1 ∙ x.are in
-    absurd (cc)
 
 -- the definition that they name
 named_by_stdio : (words : List (List ℕ)) (d e m n : List ℕ) → NamesDefinition words d m → SpellsStdio words e n → (d ≡ e) × (m ≡ n)
@@ -78,7 +47,7 @@ begins_serving names left left_after held held_after Same words name main spelle
 pub begins_proving : (names : Option Names) (left left_after held held_after : Option (List ℕ)) (words : List (List ℕ)) (c : ProveWords) → SpellsProve words c → left_after ≡ left →
     (held_after ≡ held) ⊎ ((status : ℕ) × Proved names (GainsFront held held_after) c status) → ((left_after ≡ left) × (held_after ≡ held)) ⊎ BeginsWords names left left_after held held_after words
 begins_proving names left left_after held held_after words c spelled unread (inl same) = inl (unread, same)
-begins_proving names left left_after held held_after words c spelled unread (inr (status, proved)) = inr (inr (status, (c, spelled, proved)))
+begins_proving names left left_after held held_after words c spelled unread (inr (status, proved)) = inr (inr (inl (status, (c, spelled, proved))))
 
 -- no count but those that a proof has to do with
 pub without_input : (a b c : Type 0) → a ⊎ c → a ⊎ (b ⊎ c)
@@ -88,7 +57,7 @@ without_input a b c (inr x) = inr (inr x)
 -- ---- statuses
 
 pub usage_is_told : (names : Option Names) (words : List (List ℕ)) (failed untold : Type 0) (before after : Option (List ℕ)) (status : ℕ) →
-    ¬ SpellsSome words → status ≡ 3 → Tells untold before after (codes "kprove: usage\n") → IsEnded names words failed before after untold status
+    ¬ AreFaultless words → status ≡ 3 → Tells untold before after (codes "kprove: usage\n") → IsEnded names words failed before after untold status
 usage_is_told names words failed untold before after status none is told = record { ending = usage; status_is = is; because = none; told = told }
 
 pub trouble_is_told : (names : Option Names) (words : List (List ℕ)) (failed untold : Type 0) (before after : Option (List ℕ)) (status : ℕ) (t : Trouble) →
@@ -191,14 +160,14 @@ pub done_at : (names : Option Names) (words : List (List ℕ)) (failed : Type 0)
 done_at None words failed status low = tt
 done_at (Some held) words failed status low = λ s calm. inl low
 
--- words that spell no command
-possible_spells : (words : List (List ℕ)) (held : Names) → IsPossible words held → SpellsSome words
-possible_spells words held (inl s) = inl (s.name, s.main, s.spells)
-possible_spells words held (inr p) = inr (p.command, p.spells)
+-- words with a fault
+pub possible_spells : (words : List (List ℕ)) (held : Names) → IsPossible words held → AreFaultless words
+possible_spells words held (inl s) = s.spells.0
+possible_spells words held (inr p) = p.spells.0
 
-pub not_possible : (names : Option Names) (words : List (List ℕ)) (failed : Type 0) (status : ℕ) → ¬ SpellsSome words → IfSome names (λ held. IsPossible words held → ¬ failed → (status ≤ 2) ⊎ (status ≡ 7))
-not_possible None words failed status none = tt
-not_possible (Some held) words failed status none = λ s calm. absurd (none (possible_spells words held s))
+pub spelled_faultless : (words : List (List ℕ)) → SpellsSome words → AreFaultless words
+spelled_faultless words (inl s) = s.2.0
+spelled_faultless words (inr s) = s.1.0
 
 -- ---- causes
 

@@ -5,17 +5,22 @@ use Rattle.kp_kore.specs.Syntax.{Text}
 use Rattle.kp_io.specs.Outside.{Names}
 use Rattle.kp_program.specs.Proofs.{Proved, ProvedWords}
 use Rattle.kp_program.specs.Served.{BreaksWords, GainsFront, ServesWords}
-use Rattle.kp_program.specs.Words.{ProveWords}
+use Rattle.kp_command.specs.Words.{AskHelp, ProveWords}
 
 -- with this status, from what the input had left and the output held to what they have then
 abbrev pub DoesWords : Option Names → Option (List ℕ) → Option (List ℕ) → Option (List ℕ) → Option (List ℕ) → List Text → ℕ → Type 0
 DoesWords names left left_after held held_after words status =
     (ServesWords names left left_after held held_after words × (status ≡ 0)) ⊎ ProvedWords names (Appends held held_after) words status
 
--- a front of it, whatever the status was to be
+-- help that the words ask for, or a front of it, was written
+abbrev pub TellsHelp : Option (List ℕ) → Option (List ℕ) → Option (List ℕ) → Option (List ℕ) → List Text → Type 0
+TellsHelp left left_after held held_after words = AskHelp words × (left_after ≡ left) × ((text : List ℕ) × GainsFront held held_after text)
+
+-- a front of it, whatever the status was to be, or help
 abbrev pub BeginsWords : Option Names → Option (List ℕ) → Option (List ℕ) → Option (List ℕ) → Option (List ℕ) → List Text → Type 0
 BeginsWords names left left_after held held_after words =
-    BreaksWords names left left_after held held_after words ⊎ ((status : ℕ) × ProvedWords names (GainsFront held held_after) words status)
+    BreaksWords names left left_after held held_after words
+    ⊎ (((status : ℕ) × ProvedWords names (GainsFront held held_after) words status) ⊎ TellsHelp left left_after held held_after words)
 
 -- the input and the output are as they were, or a front of it is done
 abbrev pub MayBegin : Option Names → Option (List ℕ) → Option (List ℕ) → Option (List ℕ) → Option (List ℕ) → List Text → Type 0

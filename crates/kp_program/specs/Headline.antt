@@ -12,7 +12,7 @@ use Rattle.kp_claim_sentences.specs.Claims.{StatedClaim, IsStatedBy}
 use Rattle.kp_claim_sentences.specs.Faults.{IsFaultlessFile}
 use Rattle.kp_report.specs.Report.{HasLine}
 use Rattle.kp_program.specs.Loaded.{IsLoaded}
-use Rattle.kp_program.specs.Words.{ProveWords, SpellsProve}
+use Rattle.kp_command.specs.Words.{ProveWords, SpellsProve}
 
 -- the claims' file of the command has no fault, so that no two of its claims have one label; it spells a claim with this label, and
 -- the claim holds over the theory of the command's definition

@@ -1,5 +1,4 @@
 pub mod ClaimFiles
-pub mod Commands
 pub mod Does
 pub mod Faults
 pub mod Inputs
@@ -9,5 +8,4 @@ pub mod Proofs
 pub mod Served
 pub mod Statuses
 pub mod Troubles
-pub mod Words
 pub mod Headline

@@ -24,7 +24,7 @@ use Rattle.kp_report.specs.Report.{ReportLine, IsReport}
 use Rattle.kp_client.specs.Rounds.{Proves, ProofOutcome, passed, failed_at, pending_at, refused_with}
 use Rattle.kp_client.specs.Sound.{IsStuckAt}
 use Rattle.kp_program.specs.Loaded.{IsLoaded}
-use Rattle.kp_program.specs.Words.{ProveWords, SpellsProve}
+use Rattle.kp_command.specs.Words.{ProveWords, SpellsProve}
 
 -- ---- the server
 

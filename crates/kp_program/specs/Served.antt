@@ -17,7 +17,7 @@ use Rattle.kp_conn.specs.declared.served.Served.TheVariants as served
 use Rattle.kp_service.specs.Alone.{AreAllOwn}
 use Rattle.kp_service.specs.Answers.{IsAnswer, IsBegun}
 use Rattle.kp_program.specs.Faults.{IsFaultless}
-use Rattle.kp_program.specs.Words.{SpellsStdio}
+use Rattle.kp_command.specs.Words.{SpellsStdio}
 
 -- ---- the input
 

@@ -10,9 +10,9 @@ use Rattle.kp_imports.specs.Faults.{fault_code}
 use Rattle.kp_program.specs.Faults.{FileFault, too_long, in_text, in_modules, in_claims, IsFileFault, IsFaultless, IsClaimsFault, AreFaultlessClaims, claim_code}
 use Rattle.kp_program.specs.Loaded.{IsLoaded}
 use Rattle.kp_program.specs.Served.{GainsFront}
-use Rattle.kp_program.specs.Words.{ProveWords, SpellsStdio, SpellsProve, SpellsSome, NamesDefinition}
+use Rattle.kp_command.specs.Words.{AreFaultless, AskHelp, ProveWords, SpellsStdio, SpellsProve, NamesDefinition}
 
--- the words are no command; the file of this name has a fault; there is no file of this name; the shelf, the input or
+-- clap refuses the words, or is asked for help; the file of this name has a fault; there is no file of this name; the shelf, the input or
 -- the output failed; memory ran out
 pub data Ending : Type 0 where
   usage : Ending
@@ -83,7 +83,7 @@ IsNowhere names name = IfSome names (λ held. held name ≡ None)
 -- why a program with these words ends so, over a shelf with these names: the definition's file first, then the claims';
 -- want of memory needs no cause
 abbrev pub IsCause : Option Names → List Text → Type 0 → Ending → Type 0
-IsCause names words failed usage = ¬ SpellsSome words
+IsCause names words failed usage = ¬ AreFaultless words
 IsCause names words failed (faulty name f) = IsFaultyDefinition names words name f ⊎ AreFaultyClaims names words name f
 IsCause names words failed (no_file name) = ((main : Text) × NamesDefinition words name main × IsNowhere names name) ⊎ (AreClaimsOf names words name × IsNowhere names name)
 IsCause names words failed outside = failed
@@ -95,6 +95,10 @@ pub record IsEnded (names : Option Names) (words : List Text) (failed : Type 0) 
   pub status_is : status ≡ exit_status ending
   pub because : IsCause names words failed ending
   pub told : Tells untold before after (line_of ending)
+
+-- where clap finds a fault in the words: status 3, or memory ran out, or help that they ask for couldn't be written
+abbrev pub IsRefusedAs : List Text → ℕ → Type 0
+IsRefusedAs words status = (status ≡ 3) ⊎ ((status ≡ 7) ⊎ ((status ≡ 6) × AskHelp words))
 
 -- ---- where it can't end so
 

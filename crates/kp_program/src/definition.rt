@@ -3,7 +3,7 @@ ghost use Rattle.kp_io.specs.Outside.{Rose, load_limit};
 ghost use Rattle.kp_program.specs.Inputs.{IsTableOf};
 ghost use Rattle.kp_program.specs.Statuses.{IsCause};
 ghost use Rattle.kp_program.specs.Troubles.{IsFaulty, ending_of};
-ghost use Rattle.kp_program.specs.Words.{NamesDefinition};
+ghost use Rattle.kp_command.specs.Words.{NamesDefinition};
 
 use crate::trouble::{FileFault, Trouble, file_trouble, module_trouble, no_file, read_trouble};
 use kp_io::{LoadFault, Shelf};

@@ -1,10 +1,9 @@
-// What the program does: `run` obeys the words of a command line over a shelf, an input and outputs. specs/Words.antt says
-// which words spell a command, specs/Served.antt and specs/Proofs.antt what a command does, specs/Statuses.antt how the
-// program ends otherwise.
+// What the program does: `run` obeys the words of a command line, which kp_command reads, over a shelf, an input and
+// outputs. specs/Served.antt and specs/Proofs.antt say what a command does, specs/Statuses.antt how the program ends
+// otherwise.
 #![tactic(auto)]
 
 mod claims;
-mod command;
 mod definition;
 mod local;
 mod output;

@@ -12,7 +12,7 @@ ghost use Rattle.kp_report.specs.Report.{IsReport};
 ghost use Rattle.kp_client.specs.View.{outcome_view};
 ghost use Rattle.kp_report.specs.View.{line_view};
 ghost use Rattle.kp_program.specs.ClaimFiles.{AreGround, IsGroundClaim};
-ghost use Rattle.kp_program.specs.Commands.{prove_view};
+ghost use Rattle.kp_command.specs.Commands.{prove_view};
 ghost use Rattle.kp_methods.specs.ServedTheory.{IsServedTheoryOf};
 ghost use Rattle.kp_program.specs.Loaded.{IsLoaded};
 ghost use Rattle.kp_program.specs.Does.{MayProve};
@@ -21,16 +21,16 @@ ghost use Rattle.kp_program.specs.Proofs.{AreReported, IsLineFor, Proved, has_fa
 ghost use Rattle.kp_program.specs.Served.{GainsFront};
 ghost use Rattle.kp_program.specs.Statuses.{exit_status as trouble_status};
 ghost use Rattle.kp_program.specs.Troubles.{HasCause, IsLate, ending_of};
-ghost use Rattle.kp_program.specs.Words.{SpellsProve};
+ghost use Rattle.kp_command.specs.Words.{SpellsProve};
 
 use crate::claims::load_claims;
-use crate::command::Prove;
 use crate::definition::load_table;
 use crate::local::LocalLink;
 use crate::output::put_line;
 use crate::trouble::Trouble;
 use kp_claim_sentences::FiledClaim;
 use kp_client::{ProofEnd, ProveOptions, prove};
+use kp_command::Prove;
 use kp_io::{Shelf, Sink};
 use kp_modules::ModuleTable;
 use kp_report::{Line, report_text};

@@ -50,7 +50,7 @@ impl From<AllocError> for Trouble {
 }
 
 /// The line where memory ran out.
-const MEMORY_LINE: &str = "kprove: memory\n";
+pub const MEMORY_LINE: &str = "kprove: memory\n";
 
 /// Writes why the program ends, and answers its status: 7 where the line can't be made.
 pub fn ended<E: Sink>(alloc: Global, err: &mut E, trouble: &Trouble) -> u8

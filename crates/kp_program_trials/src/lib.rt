@@ -11,6 +11,8 @@ mod endings;
 mod requests;
 #[cfg(test)]
 mod running;
+#[cfg(test)]
+mod words;
 
 // connections over a definition
 #[cfg(test)]

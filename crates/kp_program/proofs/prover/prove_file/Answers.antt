@@ -2,7 +2,7 @@ use Rattle.std.proofs.Common.{◌≡◌, inl, inr, refl, subst, sym, Option, IfO
 use Rattle.std.proofs.lemmas.Result.{IfErr-weaker}
 use Rattle.std.specs.Io.KnownBytes.{Appends}
 use Rattle.kp_io.specs.Outside.{Names, Rose}
-use Rattle.kp_program.specs.Commands.{prove_view}
+use Rattle.kp_command.specs.Commands.{prove_view}
 use Rattle.kp_program.specs.Proofs.{Proved}
 use Rattle.kp_program.specs.Served.{GainsFront}
 use Rattle.kp_program.specs.Statuses.{IsCause}

@@ -1,7 +1,7 @@
 use Rattle.std.proofs.Common.{inl, inr}
 use Rattle.std.proofs.lemmas.Result.{IfErr-weaker}
 use Rattle.kp_modules.specs.Openings.{opening_of}
-use Rattle.kp_program.specs.Commands.{prove_view}
+use Rattle.kp_command.specs.Commands.{prove_view}
 use Rattle.kp_program.proofs.Causes.{late_cause, late_status}
 use Rattle.kp_program.proofs.ClaimCauses.{claims_cause}
 use Rattle.kp_program.proofs.Proving.{proved_ok, proved_front, theory_over}
