@@ -43,7 +43,7 @@ use Rattle.kp_goals.proofs.SolvedIn.{solved_good, solved_put, safe_clauses, term
 -- ---- the consequent
 
 -- an instance of the body is one of a conjunction
-body_met : (g : KoreSignature) (x : Valuation) (c : KorePattern) (u : Value) → IsInstance g x (under_binders c) u → IsConjunctionInstance g x (under_binders c) u
+pub body_met : (g : KoreSignature) (x : Valuation) (c : KorePattern) (u : Value) → IsInstance g x (under_binders c) u → IsConjunctionInstance g x (under_binders c) u
 body_met g x (exists s y t c) u h = body_met g x c u h
 body_met g x c u h = h
 
@@ -81,7 +81,7 @@ equality_right g hand s t u i j n m = by (is_too_large 0 (opened_same g true tru
     by true = (((((i.0, j.0), all_both (λ (x : SortedName). Contains hand x) (term_variables t) (term_variables u) i.1 j.1), (n, m)), tt), tt)
     by false = let f = opened_same g true true s t u in clauses_have (Right g hand) f (both_facts (Good g hand) (Sound g) f (opened_same_good g hand true true s t u i j) (same_formed g (IsSoundQuote g) true true s t u n m))
 
-equality_says : (g : KoreSignature) (hand : List SortedName) (x : Valuation) (s : KoreSort) (t u : SymbolicTerm) → GivesSorts g x hand → GoodTerm g hand s t → GoodTerm g hand s u →
+pub equality_says : (g : KoreSignature) (hand : List SortedName) (x : Valuation) (s : KoreSort) (t u : SymbolicTerm) → GivesSorts g x hand → GoodTerm g hand s t → GoodTerm g hand s u →
     AreTrue g x (if is_too_large 0 (opened_same g true true s t u) then (record { holds = true; atom = same s t u } ∷ []) ∷ [] else distributed (opened_same g true true s t u)) ↔ (term_instance g x t ≡ term_instance g x u)
 equality_says g hand x s t u sorts i j = by (is_too_large 0 (opened_same g true true s t u))
   where
@@ -102,13 +102,13 @@ module _ (g : KoreSignature) (c : KorePattern) (k : Consequent) (p : StatePart) 
   abbrev PlacesTrue : Valuation → List KorePattern → Type 0
   PlacesTrue x qs = AllByRecursion (IsTrueUnder g x) qs
 
-  part_term : GoodTerm g Hand p.state.sort p.state.term
+  pub part_term : GoodTerm g Hand p.state.sort p.state.term
   part_term = (m.part.sorted.term, term_at_hand g p.state (top_binders c) (term_variables p.state.term) m.part.sorted.term_at_hand)
 
   is_a_term : is_term m.consequent.pattern ≡ true
   is_a_term = first_kept is_term (conjuncts (under_binders c)) m.consequent.pattern [] m.consequent.alone
 
-  own_term : GoodTerm g Hand p.state.sort k.term
+  pub own_term : GoodTerm g Hand p.state.sort k.term
   own_term =
       let q = m.consequent.pattern in
       subst (GoodTerm g Hand p.state.sort) (sym m.consequent.term) (
@@ -119,16 +119,16 @@ module _ (g : KoreSignature) (c : KorePattern) (k : Consequent) (p : StatePart) 
   own_normal : IsNormal g k.term
   own_normal = subst (IsNormal g) (sym m.consequent.term) (folded_normal g [] m.consequent.pattern tt)
 
-  match_right : AllByRecursion (IsRightClause g Hand) (match_clauses g k p)
+  pub match_right : AllByRecursion (IsRightClause g Hand) (match_clauses g k p)
   match_right = equality_right g Hand p.state.sort p.state.term k.term part_term own_term m.part.formed.term own_normal
 
-  own_value : (x : Valuation) → GivesSorts g x Hand → term_instance g x k.term ≡ instance g x m.consequent.pattern
+  pub own_value : (x : Valuation) → GivesSorts g x Hand → term_instance g x k.term ≡ instance g x m.consequent.pattern
   own_value x sorts =
       let q = m.consequent.pattern in
       ap (term_instance g x) m.consequent.term ∙ folded_is g [] x q (given_alone g x (free_variables q) (at_hand_given g x Hand (free_variables q) sorts m.term.at_hand))
 
   -- the match says that the instance is the consequent's term's
-  match_says : (x : Valuation) (u : Value) → GivesSorts g x Hand → IsStateInstance g x p.state u → AreTrue g x (match_clauses g k p) ↔ (u ≡ instance g x m.consequent.pattern)
+  pub match_says : (x : Valuation) (u : Value) → GivesSorts g x Hand → IsStateInstance g x p.state u → AreTrue g x (match_clauses g k p) ↔ (u ≡ instance g x m.consequent.pattern)
   match_says x u sorts met =
       let i = equality_says g Hand x p.state.sort p.state.term k.term sorts part_term own_term in
       let e = own_value x sorts in (
@@ -138,7 +138,7 @@ module _ (g : KoreSignature) (c : KorePattern) (k : Consequent) (p : StatePart) 
 
   -- ---- conditions
 
-  verified_over : (qs : List Replaced) → AllByRecursion (IsPutBy g Hand) qs → (ps : List KorePattern) → AllByRecursion (IsPredicateOf g Hand) ps → AllByRecursion (IsVerifiedOver g Hand qs) ps
+  pub verified_over : (qs : List Replaced) → AllByRecursion (IsPutBy g Hand) qs → (ps : List KorePattern) → AllByRecursion (IsPredicateOf g Hand) ps → AllByRecursion (IsVerifiedOver g Hand qs) ps
   verified_over qs h [] n = tt
   verified_over qs h (q ∷ ps) n = (
     record {
@@ -164,7 +164,7 @@ module _ (g : KoreSignature) (c : KorePattern) (k : Consequent) (p : StatePart) 
       let good = with_solved put h in
       condition_right g Hand qs k.predicates (put_normal g Hand qs good) (verified_over qs good k.predicates m.predicates)
 
-  goals_right : AreGoalsRight g Hand k p
+  pub goals_right : AreGoalsRight g Hand k p
   goals_right o h =
       let qs = all_put g p o in
       let rest = flat_map (put_in_clause g qs) o.rest in

@@ -53,17 +53,17 @@ counterexample g a c s q w u distinct read below sorts met refused =
 -- ---- valid
 
 -- the values of the bound variables, and the others as v gives them
-abbrev chosen_over : KorePattern → Valuation → Valuation → Valuation
+abbrev pub chosen_over : KorePattern → Valuation → Valuation → Valuation
 chosen_over c v x = λ y. if is_named y (top_binders c) then x y else v y
 
-chosen_bound : (c : KorePattern) (v x : Valuation) (y : Text) → is_named y (top_binders c) ≡ true → chosen_over c v x y ≡ x y
+pub chosen_bound : (c : KorePattern) (v x : Valuation) (y : Text) → is_named y (top_binders c) ≡ true → chosen_over c v x y ≡ x y
 chosen_bound c v x y n = rw n refl
 
-chosen_free : (c : KorePattern) (v x : Valuation) (y : Text) → is_named y (top_binders c) ≡ false → chosen_over c v x y ≡ v y
+pub chosen_free : (c : KorePattern) (v x : Valuation) (y : Text) → is_named y (top_binders c) ≡ false → chosen_over c v x y ≡ v y
 chosen_free c v x y n = rw n refl
 
 -- the bound variables have values of their sorts
-bound_sorts : (g : KoreSignature) (c : KorePattern) (v x : Valuation) (xs : List SortedName) → AllByRecursion (λ y. is_named y.name (top_binders c) ≡ true) xs → GivesSorts g x xs → GivesSorts g (chosen_over c v x) xs
+pub bound_sorts : (g : KoreSignature) (c : KorePattern) (v x : Valuation) (xs : List SortedName) → AllByRecursion (λ y. is_named y.name (top_binders c) ≡ true) xs → GivesSorts g x xs → GivesSorts g (chosen_over c v x) xs
 bound_sorts g c v x [] n h = tt
 bound_sorts g c v x (y ∷ ys) n h = (subst (HasSort g y.sort) (sym (chosen_bound c v x y.name n.0)) h.0, bound_sorts g c v x ys n.1 h.1)
 
@@ -73,12 +73,12 @@ body_name : (c : KorePattern) (v w x : Valuation) (y : Text) → AgreesOff (top_
 body_name c v w x y off on h true e = chosen_bound c v x y e
 body_name c v w x y off on h false e = chosen_free c v x y e ∙ sym (off y e ∙ elim h [ inl n ↦ absurd (true_is_false (sym n ∙ e)) | inr n ↦ by_name (λ z. w z ≡ v z) y (free_variables c) n on ])
 
-body_agrees : (c : KorePattern) (v w x : Valuation) → AgreesOff (top_binders c) w x → AgreesOn (free_variables c) v w → (xs : List SortedName) →
+pub body_agrees : (c : KorePattern) (v w x : Valuation) → AgreesOff (top_binders c) w x → AgreesOn (free_variables c) v w → (xs : List SortedName) →
     AllByRecursion (λ y. (is_named y.name (top_binders c) ≡ true) ⊎ (is_named y.name (free_variables c) ≡ true)) xs → AgreesOn xs x (chosen_over c v x)
 body_agrees c v w x off on [] h = tt
 body_agrees c v w x off on (y ∷ ys) h = (body_name c v w x y.name off on h.0 (is_named y.name (top_binders c)) refl, body_agrees c v w x off on ys h.1)
 
-agrees_later : (xs ys : List SortedName) (v w : Valuation) → AgreesOn (xs ++ ys) v w → AgreesOn ys v w
+pub agrees_later : (xs ys : List SortedName) (v w : Valuation) → AgreesOn (xs ++ ys) v w → AgreesOn ys v w
 agrees_later [] ys v w h = h
 agrees_later (x ∷ xs) ys v w h = agrees_later xs ys v w h.1
 

@@ -18,11 +18,11 @@ use Rattle.kp_goals.proofs.Core.{given_both}
 
 -- ---- values of the bound variables leave those at hand
 
-same_on : (c : KorePattern) (w x : Valuation) (hand : List SortedName) → AgreesOff (top_binders c) w x → AreClear c hand → AgreesOn hand w x
+pub same_on : (c : KorePattern) (w x : Valuation) (hand : List SortedName) → AgreesOff (top_binders c) w x → AreClear c hand → AgreesOn hand w x
 same_on c w x [] off clear = tt
 same_on c w x (y ∷ ys) off clear = (off y.name clear.0, same_on c w x ys off clear.1)
 
-back_on : (w x : Valuation) (hand : List SortedName) → AgreesOn hand w x → AgreesOn hand x w
+pub back_on : (w x : Valuation) (hand : List SortedName) → AgreesOn hand w x → AgreesOn hand x w
 back_on w x [] h = tt
 back_on w x (y ∷ ys) h = (sym h.0, back_on w x ys h.1)
 
@@ -30,12 +30,12 @@ sorts_on : (g : KoreSignature) (w x : Valuation) (hand : List SortedName) → Ag
 sorts_on g w x [] h s = tt
 sorts_on g w x (y ∷ ys) h s = (subst (HasSort g y.sort) (sym h.0) s.0, sorts_on g w x ys h.1 s.1)
 
-all_sorts : (g : KoreSignature) (c : KorePattern) (w x : Valuation) (hand : List SortedName) → Chooses g c w x → AreClear c hand → GivesSorts g w hand → GivesSorts g x (hand ++ top_binders c)
+pub all_sorts : (g : KoreSignature) (c : KorePattern) (w x : Valuation) (hand : List SortedName) → Chooses g c w x → AreClear c hand → GivesSorts g w hand → GivesSorts g x (hand ++ top_binders c)
 all_sorts g c w x hand chooses clear s = given_both g x hand (top_binders c) (sorts_on g w x hand (same_on c w x hand chooses.agrees clear) s) chooses.sorts
 
 -- ---- goals
 
-goals_on : (g : KoreSignature) (hand : List SortedName) (v w : Valuation) (cs : List (List Literal)) → AllByRecursion (ClauseDepends g hand) cs → AgreesOn hand v w → AreTrue g v cs → AreTrue g w cs
+pub goals_on : (g : KoreSignature) (hand : List SortedName) (v w : Valuation) (cs : List (List Literal)) → AllByRecursion (ClauseDepends g hand) cs → AgreesOn hand v w → AreTrue g v cs → AreTrue g w cs
 goals_on g hand v w [] d on h = tt
 goals_on g hand v w (c ∷ cs) d on h = (d.0 v w on h.0, goals_on g hand v w cs d.1 on h.1)
 

@@ -35,7 +35,7 @@ stable_values u w n = by_same (values_same u w) (same_values_decide u w)
         differ e = cc
 
 -- a clause of one equality says it
-alone_says : (g : KoreSignature) (x : Valuation) (s : KoreSort) (t u : SymbolicTerm) → IsClauseTrue g x (record { holds = true; atom = same s t u } ∷ []) ↔ (term_instance g x t ≡ term_instance g x u)
+pub alone_says : (g : KoreSignature) (x : Valuation) (s : KoreSort) (t u : SymbolicTerm) → IsClauseTrue g x (record { holds = true; atom = same s t u } ∷ []) ↔ (term_instance g x t ≡ term_instance g x u)
 alone_says g x s t u = (λ h. stable_values (term_instance g x t) (term_instance g x u) (λ n. h (n, tt)), λ e h. h.0 e)
 
 both_ways : {A B C : Type 0} → A ↔ B → B ↔ C → A ↔ C
@@ -56,7 +56,7 @@ given_says g bound x s t u e i j h = first_or (bound_side g bound u t) (bound_si
 none_is_some : {A : Type 0} {a : A} → None ≡ Some a → ⊥
 none_is_some e = cc
 
-side_number : (g : KoreSignature) (hand : List SortedName) (x : Valuation) (s : KoreSort) (t : SymbolicTerm) → GivesSorts g x hand → GoodTerm g hand s t → SideNumber g x t
+pub side_number : (g : KoreSignature) (hand : List SortedName) (x : Valuation) (s : KoreSort) (t : SymbolicTerm) → GivesSorts g x hand → GoodTerm g hand s t → SideNumber g x t
 side_number g hand x s (unknown y) sorts i = λ e. number_value g y.sort (x y.name) e (at_hand_given g x hand (y ∷ []) sorts i.1).0
 side_number g hand x s (offset y c) sorts i = number_value g y.sort (x y.name) i.0.0 (at_hand_given g x hand (y ∷ []) sorts i.1).0
 side_number g hand x s (known u) sorts i = tt

@@ -72,10 +72,10 @@ none_is_some : {A : Type 0} {a : A} → None ≡ Some a → ⊥
 none_is_some e = cc
 
 -- of some sort, of variables at hand, in normal form
-record IsGoodTerm (g : KoreSignature) (hand : List SortedName) (t : SymbolicTerm) : Type 0 where
-  sort : KoreSort
-  good : GoodTerm g hand sort t
-  normal : IsNormal g t
+pub record IsGoodTerm (g : KoreSignature) (hand : List SortedName) (t : SymbolicTerm) : Type 0 where
+  pub sort : KoreSort
+  pub good : GoodTerm g hand sort t
+  pub normal : IsNormal g t
 
 -- the variable with the constant
 summed_good : (g : KoreSignature) (hand : List SortedName) (z : SortedName) (c : ℤ) (n : SymbolicTerm) → Contains hand z → is_number_sort g z.sort ≡ true → summed_of g z c ≡ Some n → IsGoodTerm g hand n
@@ -90,7 +90,7 @@ sum_good : (g : KoreSignature) (hand : List SortedName) (k : ℤ) (z : SortedNam
 sum_good g hand k z d n has true i e = summed_good g hand z (d +ℤ k) n has i e
 sum_good g hand k z d n has false i e = absurd (none_is_some e)
 
-shifted_good : (g : KoreSignature) (hand : List SortedName) (k : ℤ) (s : KoreSort) (t n : SymbolicTerm) → GoodTerm g hand s t → shifted g k t ≡ Some n → IsGoodTerm g hand n
+pub shifted_good : (g : KoreSignature) (hand : List SortedName) (k : ℤ) (s : KoreSort) (t n : SymbolicTerm) → GoodTerm g hand s t → shifted g k t ≡ Some n → IsGoodTerm g hand n
 shifted_good g hand k s (known (whole j)) n h e = by_fit (fits_number (j +ℤ k)) refl e
   where
     by_fit : (b : Bool) → fits_number (j +ℤ k) ≡ b → (if b then Some (known (whole (j +ℤ k))) else None) ≡ Some n → IsGoodTerm g hand n

@@ -46,8 +46,8 @@ pub record IsOpenable (g : KoreSignature) (v : Valuation) (qs : List Replaced) (
 -- ---- equalities
 
 record IsReplacedTerm (g : KoreSignature) (v : Valuation) (qs : List Replaced) (s : KoreSort) (t : SymbolicTerm) : Type 0 where
-  sorted : IsWellSorted g s (replaced g qs t)
-  given : GivesSorts g v (term_variables (replaced g qs t))
+  pub sorted : IsWellSorted g s (replaced g qs t)
+  pub given : GivesSorts g v (term_variables (replaced g qs t))
   is : term_instance g v (replaced g qs t) ≡ term_instance g (under_replaced g qs v) t
 
 replaced_term : (g : KoreSignature) (v : Valuation) (qs : List Replaced) (s : KoreSort) (t : SymbolicTerm) → IsWellSorted g s t → AllByRecursion (Placed g qs) (term_variables t) → AllByRecursion (Sorted g qs v) (term_variables t) → IsReplacedTerm g v qs s t
@@ -84,8 +84,8 @@ beside_is g v qs (r ∷ rs) tail y k n = by (bytes_eq r.name y) refl (beside_is 
 -- what is needed of a free variable of a quoted predicate
 record IsReadyFor (g : KoreSignature) (qs : List Replaced) (v : Valuation) (p : KorePattern) (rs : List Replaced) (x : SortedName) : Type 0 where
   named : is_named x.name (free_variables p) ≡ true
-  sorted : IsWellSorted g x.sort (term_for x (replacement_for rs x.name))
-  given : AllByRecursion (Sorted g qs v) (variables_for x (replacement_for rs x.name))
+  pub sorted : IsWellSorted g x.sort (term_for x (replacement_for rs x.name))
+  pub given : AllByRecursion (Sorted g qs v) (variables_for x (replacement_for rs x.name))
 
 abbrev is_new : KorePattern → List Replaced → Text → Bool
 is_new p rs y = is_named y (free_variables p) && not (is_some (replacement_for rs y))

@@ -38,7 +38,7 @@ some_same {X = X} x y e = ap (from x) e
     from d (Some z) = z
     from d None = d
 
-plus_number : (u : Value) (m c : ℤ) → u ≡ whole m → interpreted (whole_arithmetic addition) (two u (whole c)) ≡ whole (m +ℤ c)
+pub plus_number : (u : Value) (m c : ℤ) → u ≡ whole m → interpreted (whole_arithmetic addition) (two u (whole c)) ≡ whole (m +ℤ c)
 plus_number u m c e = ap (λ z. interpreted (whole_arithmetic addition) (two z (whole c))) e
 
 -- the variable with the constant
@@ -85,7 +85,7 @@ if_same g bound y t e h = by_test (is_named y.name bound && (not (has_bound boun
     by_test true h = some_same (record { variable = y; term = t }) e h
     by_test false h = cc
 
-back : (m c : ℤ) → (m +ℤ neg_ℤ c) +ℤ c ≡ m
+pub back : (m c : ℤ) → (m +ℤ neg_ℤ c) +ℤ c ≡ m
 back m c = +ℤ_assoc m (neg_ℤ c) c ∙ ap (λ d. m +ℤ d) (+ℤ_invl c) ∙ +ℤ_idr m
 
 -- the equality of the term with the side says that the variable is what it gives

@@ -43,7 +43,7 @@ fn some_stands(variables: &[Arc<Variable>], term: &Term) -> bool
 }
 
 /// Whether a bound variable stands in the term.
-fn has_bound(bound: &[Arc<Variable>], term: &Term) -> bool
+pub fn has_bound(bound: &[Arc<Variable>], term: &Term) -> bool
     ensures { result ≡ model.has_bound (variables_view bound.now) (term_view term.now) }
 {
     some_stands(bound, term)

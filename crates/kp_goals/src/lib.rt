@@ -12,7 +12,7 @@ mod solved;
 mod sums;
 
 pub use consequent::{Consequent, consequent_of};
-pub use equations::is_among;
+pub use equations::{has_bound, is_among};
 pub use given::match_clauses;
 pub use goals::{asked_in, is_unbound};
 pub use left::left_of;
