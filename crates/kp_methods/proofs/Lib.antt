@@ -1,7 +1,6 @@
 pub mod Ended
 pub mod ExecutedEnds
 pub mod ExecutedLines
-pub mod Implied
 pub mod Implying
 pub mod Runs
 pub mod SimplifiedLines

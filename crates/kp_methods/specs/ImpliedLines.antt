@@ -1,48 +1,44 @@
--- What is told between a call and the line of its reply; for private clauses.
-use Rattle.std.specs.Prelude.{◌≡◌, ℕ, List, Option, Some, ⊤}
+-- What is told between a request of implies and its reply; for private clauses.
+use Rattle.std.specs.Prelude.{◌≡◌, ℕ, List, Some, ⊤}
 use Rattle.serde_json.specs.Data.{Data}
-use Rattle.kp_kore.specs.Syntax.{Text, KoreSort, KorePattern}
+use Rattle.kp_kore.specs.Syntax.{KoreSort, KorePattern}
 use Rattle.kp_kore.specs.Signature.{KoreSignature}
+use Rattle.kp_kore.specs.View.{sort_view}
+use Rattle.kp_kore.specs.Implied.{Implied}
 use Rattle.kp_json.specs.Faults.{Reading, read, fault, TreeFault}
+use Rattle.kp_symbolic.specs.Endings.{Result}
 use Rattle.kp_clauses.specs.Faults as place
 use Rattle.kp_rpc.specs.Request.{RequestId}
-use Rattle.kp_rpc.specs.Reply.{PatternRefusal, foreign_symbol, other_shape, no_pattern, error_reply, result_reply, reply_bytes}
+use Rattle.kp_rpc.specs.Reply.{PatternRefusal, foreign_symbol, other_shape, no_pattern, error_reply, reply_bytes}
 use Rattle.kp_rpc.specs.View.{pattern_fault_view, state_fault_view}
 use Rattle.kp_rpc.specs.declared.fault.StateFault.TheVariants as state
 use Rattle.kp_replies.specs.Failures.{bad_sides, failure_reply}
-use Rattle.kp_replies.specs.Written.{implied_tree}
 use Rattle.kp_sides.specs.Sides.{SidesFault, IsSidesFault, AreComparable}
 use Rattle.kp_sides.specs.View.{sides_fault_view}
-use Rattle.kp_methods.specs.ServedTheory.{ServedTheory}
-use Rattle.kp_methods.specs.Sides.{AreCompared, result_at}
+use Rattle.kp_implies.specs.Answers.{IsRightOfSides}
+use Rattle.kp_implies.specs.Promises.{IsRightFor}
 use Rattle.kp_methods.specs.declared.failure.PatternFailure.TheVariants as failure
+use Rattle.kp_methods.specs.declared.implies.Told.{Told}
 use Rattle.kp_methods.specs.declared.sides.ImpliesFailure.{ImpliesFailure}
 use Rattle.kp_methods.specs.declared.sides.ImpliesFailure.TheVariants as sides
-use Rattle.kp_methods.specs.Implied.{AreFaultless, IsImpliedAs, IsImpliesError, IsSideRefusal, told_fault}
+use Rattle.kp_methods.specs.Simplified.{IsReplyLine}
+use Rattle.kp_methods.specs.Implied.{AreFaultless, IsImpliesError, IsSideRefusal, told_fault}
 
 -- ---- lines
 
--- the line is that of a reply of which this holds
+-- the line is that of such a reply
 abbrev pub IsLineOf : (Data → Type 0) → List ℕ → Type 0
 IsLineOf IsRight line = (reply : Data) × IsRight reply × (line ≡ reply_bytes reply)
 
--- the line is that of a reply to implies that is right for what was read of its sides
-abbrev pub IsLineOfSides : ServedTheory → RequestId → Option Text → Reading KorePattern → Reading KorePattern → List ℕ → Type 0
-IsLineOfSides s id asked antecedent consequent line = IsLineOf (IsImpliedAs s id asked antecedent consequent) line
-
 -- the line tells a fault of both sides
 abbrev pub IsSidesLine : RequestId → SidesFault → List ℕ → Type 0
-IsSidesLine id f line = IsLineOf (λ reply. failure_reply id (bad_sides (told_fault f)) ≡ Some reply) line
+IsSidesLine id f line = IsReplyLine (λ reply. failure_reply id (bad_sides (told_fault f)) ≡ Some reply) line
 
 -- the line tells a fault; want of memory has none
 abbrev pub IsFaultLine : RequestId → ImpliesFailure → List ℕ → Type 0
 IsFaultLine id (sides.Side failure.Memory) line = ⊥
 IsFaultLine id (sides.Side (failure.Fault f)) line = line ≡ reply_bytes (error_reply id (state_fault_view f))
 IsFaultLine id (sides.Sides f) line = IsSidesLine id (sides_fault_view f) line
-
--- the line has the result of implies: valid at a sort, or not
-abbrev pub IsImpliedLine : RequestId → Option KoreSort → List ℕ → Type 0
-IsImpliedLine id o line = (tree : Data) × (implied_tree (result_at o) ≡ Some tree) × (line ≡ reply_bytes (result_reply id tree))
 
 -- ---- what was read
 
@@ -81,19 +77,36 @@ pub record AreIncomparable (g : KoreSignature) (antecedent consequent : Reading 
   pub wrong : IsSidesFault g left right f
 
 -- it tells what is wrong with the sides of implies
-abbrev pub IsSidesFailure : ServedTheory → Option Text → Reading KorePattern → Reading KorePattern → ImpliesFailure → Type 0
-IsSidesFailure s asked antecedent consequent (sides.Side failure.Memory) = ⊤
-IsSidesFailure s asked antecedent consequent (sides.Side (failure.Fault f)) = IsImpliesError s asked antecedent consequent (state_fault_view f)
-IsSidesFailure s asked antecedent consequent (sides.Sides f) = AreIncomparable s.theory.signature antecedent consequent (sides_fault_view f)
+abbrev pub IsSidesFailure : KoreSignature → Reading KorePattern → Reading KorePattern → ImpliesFailure → Type 0
+IsSidesFailure g antecedent consequent (sides.Side failure.Memory) = ⊤
+IsSidesFailure g antecedent consequent (sides.Side (failure.Fault f)) = IsImpliesError g antecedent consequent (state_fault_view f)
+IsSidesFailure g antecedent consequent (sides.Sides f) = AreIncomparable g antecedent consequent (sides_fault_view f)
 
--- ---- results
+-- ---- what was found
 
--- the sides are compared so: at this sort, or as other values
-pub record IsImpliedOf (g : KoreSignature) (antecedent consequent : Reading KorePattern) (o : Option KoreSort) : Type 0 where
+-- neither side has a fault of its own, nor both together; the antecedent has this sort
+pub record AreChecked (g : KoreSignature) (a c : KorePattern) (sort : KoreSort) : Type 0 where
+  pub faultless : AreFaultless g a c
+  pub is : faultless.sort ≡ sort
+  pub comparable : AreComparable g a c
+
+-- it was found of two patterns that were read, that have no fault and are comparable
+pub record IsToldOf (g : KoreSignature) (antecedent consequent : Reading KorePattern) (x : Told) : Type 0 where
   pub left : KorePattern
   pub right : KorePattern
   pub is_left : antecedent ≡ read left
   pub is_right : consequent ≡ read right
   pub faultless : AreFaultless g left right
   pub comparable : AreComparable g left right
-  pub compared : AreCompared g left right faultless.sort faultless.other o
+  pub sort : faultless.sort ≡ sort_view x.sort
+  pub found : IsRightFor g left right x.found
+
+-- an answer that is right of two patterns that were read
+pub record IsAnswerOf (g : KoreSignature) (antecedent consequent : Reading KorePattern) (answer : Result Implied) : Type 0 where
+  pub left : KorePattern
+  pub right : KorePattern
+  pub is_left : antecedent ≡ read left
+  pub is_right : consequent ≡ read right
+  pub faultless : AreFaultless g left right
+  pub comparable : AreComparable g left right
+  pub is_right_answer : IsRightOfSides g left right answer

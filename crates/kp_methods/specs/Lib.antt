@@ -8,6 +8,5 @@ pub mod Normal
 pub mod Prepared
 pub mod RightResults
 pub mod ServedTheory
-pub mod Sides
 pub mod Simplified
 pub mod Untold

@@ -18,11 +18,3 @@ pub data IsUntold (s : ServedTheory) (options : ExecuteOptions) (p : KorePattern
   stops_at_rules : ¬ (options.cut_points ++ options.terminals ≡ []) → IsUntold s options p sort
   no_state : IsOtherShape s.theory.signature p → IsUntold s options p sort
   no_run : (c : Value) → ((v : Valuation) → instance s.theory.signature v p ≡ c) → StopsUntold s.theory (record { value = c; sort = sort }) (bound_of options) → IsUntold s options p sort
-
--- ---- implies
-
--- why no result is told of two sides without a fault: another module than main is named; a side is no ground state
-pub data IsImpliesUntold (s : ServedTheory) (name : Option Text) (a c : KorePattern) : Type 0 where
-  asked_elsewhere : IsElsewhere s.main name → IsImpliesUntold s name a c
-  no_antecedent : IsOtherShape s.theory.signature a → IsImpliesUntold s name a c
-  no_consequent : IsOtherShape s.theory.signature c → IsImpliesUntold s name a c

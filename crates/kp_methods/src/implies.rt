@@ -1,48 +1,135 @@
 // Implies over the signature of one module.
-ghost use Rattle.std.specs.Prelude.{◌≡◌, IfErr, IfOk, OnOk, Option, option_map};
+ghost use Rattle.std.specs.Prelude.{◌≡◌, IfErr, IfOk, OnOk};
 ghost use Rattle.kp_kore.specs.Signature.{KoreSignature};
-ghost use Rattle.kp_kore.specs.Syntax.{KorePattern, Text};
+ghost use Rattle.kp_kore.specs.Syntax.{KorePattern, bottom, top};
+ghost use Rattle.kp_kore.specs.Implied as theory;
 ghost use Rattle.kp_kore.specs.View.{sort_view, view};
+ghost use Rattle.kp_json.specs.Faults.{Reading as Side};
 ghost use Rattle.kp_json.specs.Faults as faults;
+ghost use Rattle.kp_symbolic.specs.Endings.{answered, what_is_undecided};
+ghost use Rattle.kp_symbolic.specs.Shown as shown;
+ghost use Rattle.kp_results.specs.View.{implied_view, undecided_view};
 ghost use Rattle.kp_replies.specs.View.{failure_view};
 ghost use Rattle.kp_replies.specs.Failures.{bad_sides as bad_sides_of};
+ghost use Rattle.kp_simplify.specs.Spelled.{parts_of_cause};
 ghost use Rattle.kp_signature.specs.Verify.{VerifiesAs};
 ghost use Rattle.kp_signature.specs.View.{signature_view};
 ghost use Rattle.kp_rpc.specs.View.{id_view, pattern_fault_view};
 ghost use Rattle.kp_requests.specs.View.{reading_view};
 ghost use Rattle.kp_sides.specs.Sides.{AreComparable};
 ghost use Rattle.kp_sides.specs.View.{side_fault_view, sides_fault_view};
+ghost use Rattle.kp_implies.specs.Told.{IsUnanswered};
 ghost use Rattle.kp_methods.specs.Ends.{TellsFault};
-ghost use Rattle.kp_methods.specs.ServedTheory.{IsElsewhere, ServedTheory};
-ghost use Rattle.kp_methods.specs.Implied.{IsFaultlessSide, told_fault};
-ghost use Rattle.kp_methods.specs.ImpliedLines.{IsBothFailure, IsFaultLine, IsImpliedLine, IsImpliedOf, IsLineOfSides, IsSideFailure, IsSidesFailure, IsSidesLine, IsTreeFailure, refusal_of};
+ghost use Rattle.kp_methods.specs.Prepared.{IsPrepared, signature_in};
+ghost use Rattle.kp_methods.specs.Simplified.{IsReplyLine};
+ghost use Rattle.kp_methods.specs.Implied.{AreFaultless, IsFaultlessSide, IsImpliedAs, told_fault};
+ghost use Rattle.kp_methods.specs.ImpliedLines.{AreChecked, IsAnswerOf, IsBothFailure, IsFaultLine, IsSideFailure, IsSidesFailure, IsSidesLine, IsToldOf, IsTreeFailure, refusal_of};
 
+use crate::prepared::Prepared;
 use crate::sides::ImpliesFailure;
-use crate::{PatternFailure, compared_sides, implied_at};
+use crate::{PatternFailure, not_answered};
+use kp_implies::{Implication, ImpliesError, implies};
 use kp_kore::{Pattern, Sort};
 use kp_replies::{Failure as ReplyFailure, SidesFault, failure_text, implied_text};
 use kp_requests::Reading;
+use kp_results::{Implied, Undecided};
 use kp_rpc::{Id, PatternFault, StateFault, fault_text};
-use kp_rule_sets::RuleSet;
-use kp_sides::{ComparisonFault, SideFault, body_of, side_fault, sides_fault};
+use kp_sides::{ComparisonFault, SideFault, body_of, names_of, side_fault, sides_fault};
 use kp_signature::{Signature, VerifyError, verify};
+use kp_unify::Setting;
 use std::alloc::{AllocError, Global};
 
-/// The reply to a request of implies over these rules.
+/// The reply to a request of implies over this signature.
+/// Source: the K Haskell backend's JSON-RPC documentation (implies).
+///
+/// # Errors
+/// Where memory runs out.
 pub fn implied_line(
     alloc: Global,
-    rules: &RuleSet,
+    prepared: &Prepared,
     id: &Id,
     antecedent: Reading,
     consequent: Reading,
 ) -> Result<Vec<u8>, AllocError>
-    ensures { let g = signature_view rules.now.signature.value in
-        (s : ServedTheory) (asked : Option Text) → g ≡ s.theory.signature → ¬ IsElsewhere s.main asked →
-        IfOk result (λ line. IsLineOfSides s (id_view id.now) asked (reading_view antecedent) (reading_view consequent) line.items) }
+    requires { IsPrepared prepared.now }
+    ensures { IfOk result (λ line. IsReplyLine (IsImpliedAs (signature_in prepared.now) (id_view id.now) (reading_view antecedent) (reading_view consequent)) line.items) }
 {
-    match implied(alloc, rules, antecedent, consequent) {
-        Ok(sort) => result_line(alloc, id, &sort),
+    match implied(alloc, prepared, antecedent, consequent) {
+        Ok(told) => told_line(alloc, id, told),
         Err(failure) => failure_line(alloc, id, failure),
+    }
+}
+
+/// What is found of two sides, of which the antecedent has this sort.
+#[derive(Drop)]
+pub struct Told {
+    pub sort: Sort,
+    pub found: Implication,
+}
+
+/// Valid with `\top` of the sort and this substitution.
+fn valid_at(sort: Sort, substitution: Pattern) -> Implied
+    ensures { implied_view result ≡ theory.valid (top (sort_view sort)) (view substitution) }
+{
+    Implied::Valid {
+        predicate: Pattern::Top { sort },
+        substitution,
+    }
+}
+
+/// Valid with `\bottom` of the sort.
+fn vacuous_at(alloc: Global, sort: Sort) -> Result<Implied, AllocError>
+    ensures { IfOk result (λ r. implied_view r ≡ theory.valid (bottom (sort_view sort)) (top (sort_view sort))) }
+{
+    let other = sort.copy(alloc)?;
+    Ok(Implied::Valid {
+        predicate: Pattern::Bottom { sort: other },
+        substitution: Pattern::Top { sort },
+    })
+}
+
+/// The line of a result. No implication that is valid has a pattern for which Kore JSON has no tag; where one had, want of memory
+/// is told.
+fn result_line(alloc: Global, id: &Id, implied: &Implied) -> Result<Vec<u8>, AllocError>
+    ensures { (g : KoreSignature) (a c : Side KorePattern) → let is_right = IsImpliedAs g (id_view id.now) a c in IsAnswerOf g a c (answered (implied_view implied.now)) → IfOk result (λ line. IsReplyLine is_right line.items) }
+{
+    match implied_text(alloc, id, implied)? {
+        Some(line) => Ok(line),
+        None => Err(AllocError),
+    }
+}
+
+/// The line of code 5. Where Kore JSON had no tag for a pattern in it, want of memory is told.
+fn undecided_line(alloc: Global, id: &Id, cause: Undecided) -> Result<Vec<u8>, AllocError>
+    ensures { (g : KoreSignature) (a c : Side KorePattern) (u : shown.Undecided) → let is_right = IsImpliedAs g (id_view id.now) a c in IsAnswerOf g a c (what_is_undecided u) → undecided_view cause ≡ parts_of_cause u → IfOk result (λ line. IsReplyLine is_right line.items) }
+{
+    let failure = ReplyFailure::Undecided(cause);
+    match failure_text(alloc, id, &failure)? {
+        Some(line) => Ok(line),
+        None => Err(AllocError),
+    }
+}
+
+/// The line where the antecedent has no instance.
+fn vacuous_line(alloc: Global, id: &Id, sort: Sort) -> Result<Vec<u8>, AllocError>
+    ensures { let s = sort_view sort in (g : KoreSignature) (a c : Side KorePattern) → let is_right = IsImpliedAs g (id_view id.now) a c in IsAnswerOf g a c (answered (theory.valid (bottom s) (top s))) → IfOk result (λ line. IsReplyLine is_right line.items) }
+{
+    let implied = vacuous_at(alloc, sort)?;
+    result_line(alloc, id, &implied)
+}
+
+/// The line of what is found.
+fn told_line(alloc: Global, id: &Id, told: Told) -> Result<Vec<u8>, AllocError>
+    ensures { (g : KoreSignature) (a c : Side KorePattern) → let is_right = IsImpliedAs g (id_view id.now) a c in IsToldOf g a c told → IfOk result (λ line. IsReplyLine is_right line.items) }
+{
+    let Told { sort, found } = told;
+    match found {
+        Implication::NotValid => result_line(alloc, id, &Implied::NotValid),
+        Implication::Valid { substitution } => {
+            result_line(alloc, id, &valid_at(sort, Box::into_inner(substitution)))
+        }
+        Implication::Vacuous => vacuous_line(alloc, id, sort),
+        Implication::Undecided { undecided } => undecided_line(alloc, id, undecided),
     }
 }
 
@@ -81,49 +168,87 @@ fn failure_line(alloc: Global, id: &Id, failure: ImpliesFailure) -> Result<Vec<u
     }
 }
 
-/// The reply with the result: valid at a sort, or not.
-fn result_line(alloc: Global, id: &Id, sort: &Option<Sort>) -> Result<Vec<u8>, AllocError>
-    ensures { IfOk result (λ line. IsImpliedLine (id_view id.now) (option_map sort_view sort.now) line.items) }
-{
-    let implied = implied_at(alloc, sort)?;
-    match implied_text(alloc, id, &implied)? {
-        Some(line) => Ok(line),
-        None => unreachable!(),
-    }
-}
-
-/// The sort at which the antecedent implies the consequent, none where it doesn't, or the first cause why that isn't
-/// told.
+/// What is found of two sides, or the first cause why nothing is.
 fn implied(
     alloc: Global,
-    rules: &RuleSet,
+    prepared: &Prepared,
     antecedent: Reading,
     consequent: Reading,
-) -> Result<Option<Sort>, ImpliesFailure>
-    ensures found { IfOk result (λ o. IsImpliedOf (signature_view rules.now.signature.value) (reading_view antecedent) (reading_view consequent) (option_map sort_view o)) }
-    ensures failed { let antecedent' = reading_view antecedent in let consequent' = reading_view consequent in
-        (s : ServedTheory) (asked : Option Text) → signature_view rules.now.signature.value ≡ s.theory.signature → IfErr result (IsSidesFailure s asked antecedent' consequent') }
+) -> Result<Told, ImpliesFailure>
+    requires { IsPrepared prepared.now }
+    ensures found { IfOk result (IsToldOf (signature_in prepared.now) (reading_view antecedent) (reading_view consequent)) }
+    ensures failed { IfErr result (IsSidesFailure (signature_in prepared.now) (reading_view antecedent) (reading_view consequent)) }
 {
     let left = pattern_in(antecedent)?;
     let right = pattern_in(consequent)?;
-    compared(alloc, &rules.signature, &left, &right)
+    compared(alloc, prepared, &left, &right)
 }
 
 /// The same of two patterns.
 fn compared(
     alloc: Global,
+    prepared: &Prepared,
+    left: &Pattern,
+    right: &Pattern,
+) -> Result<Told, ImpliesFailure>
+    requires { IsPrepared prepared.now }
+    ensures found { IfOk result (IsToldOf (signature_in prepared.now) (faults.read (view left.now)) (faults.read (view right.now))) }
+    ensures failed { IfErr result (IsSidesFailure (signature_in prepared.now) (faults.read (view left.now)) (faults.read (view right.now))) }
+{
+    let sort = checked(alloc, &prepared.signature, left, right)?;
+    told_of(alloc, prepared, left, right, sort)
+}
+
+/// The antecedent's sort, where nothing is wrong with either side or with both.
+fn checked(
+    alloc: Global,
     signature: &Signature,
     left: &Pattern,
     right: &Pattern,
-) -> Result<Option<Sort>, ImpliesFailure>
-    ensures found { IfOk result (λ o. IsImpliedOf (signature_view signature.now) (faults.read (view left.now)) (faults.read (view right.now)) (option_map sort_view o)) }
-    ensures failed { let left' = faults.read (view left.now) in let right' = faults.read (view right.now) in
-        (s : ServedTheory) (asked : Option Text) → signature_view signature.now ≡ s.theory.signature → IfErr result (IsSidesFailure s asked left' right') }
+) -> Result<Sort, ImpliesFailure>
+    ensures found { IfOk result (λ s. AreChecked (signature_view signature.now) (view left.now) (view right.now) (sort_view s)) }
+    ensures failed { IfErr result (IsSidesFailure (signature_view signature.now) (faults.read (view left.now)) (faults.read (view right.now))) }
 {
     let sort = side_sort(alloc, signature, left, left)?;
-    let other = side_sort(alloc, signature, right, body_of(right))?;
+    let _other = side_sort(alloc, signature, right, body_of(right))?;
     check_sides(alloc, signature, left, right)?;
-    compared_sides(alloc, signature, left, sort, right, other)
+    Ok(sort)
+}
+
+/// What is found of two patterns with which nothing is wrong, of which the antecedent has this sort.
+fn told_of(
+    alloc: Global,
+    prepared: &Prepared,
+    left: &Pattern,
+    right: &Pattern,
+    sort: Sort,
+) -> Result<Told, ImpliesFailure>
+    requires { IsPrepared prepared.now }
+    ensures found { let g = signature_in prepared.now in let p = view left.now in let q = view right.now in AreChecked g p q (sort_view sort) → IfOk result (IsToldOf g (faults.read p) (faults.read q)) }
+    ensures failed { let g = signature_in prepared.now in let p = view left.now in let q = view right.now in AreChecked g p q (sort_view sort) → IfErr result (IsSidesFailure g (faults.read p) (faults.read q)) }
+{
+    let own = sort.copy(alloc)?;
+    let language = prepared.language()?;
+    let met = names_of(alloc, left, right)?;
+    let setting = Setting {
+        language: &language,
+        table: &prepared.heads,
+        met: &met,
+    };
+    match implies(alloc, &setting, left, right, own) {
+        Ok(found) => Ok(Told { sort, found }),
+        Err(error) => Err(unanswered(error)),
+    }
+}
+
+/// Why two sides that are comparable have no answer: T2, or want of memory.
+fn unanswered(error: ImpliesError) -> ImpliesFailure
+    ensures { (g : KoreSignature) (p q : KorePattern) → let is_told = IsSidesFailure g (faults.read p) (faults.read q) in AreFaultless g p q → AreComparable g p q → IsUnanswered g error → is_told result }
+{
+    match error {
+        ImpliesError::Memory => ImpliesFailure::Side(PatternFailure::Memory),
+        ImpliesError::NoInjection => ImpliesFailure::Side(PatternFailure::Fault(not_answered())),
+    }
 }
 
 /// The pattern that was read, or its tree's first fault.

@@ -21,7 +21,7 @@ use Rattle.kp_replies.specs.Failures.{Failure, bad_sides, undecided, failure_dat
 use Rattle.kp_replies.specs.Read.{execute, implies, executed, UnfinishedParts, unfinished, implied, failed, read_reply}
 use Rattle.kp_replies.specs.Replies.{IsReplyOf, StandWith, unfinished_parts}
 use Rattle.kp_replies.specs.RightReplies.{asked_options, IsMainAsked}
-use Rattle.kp_replies.specs.Written.{executed_tree, simplified_tree, added_tree}
+use Rattle.kp_replies.specs.Written.{executed_tree, implied_tree, simplified_tree, added_tree}
 use Rattle.kp_replies.proofs.AbortedBack.{aborted_back, aborted_no_implication}
 use Rattle.kp_replies.proofs.Alone.{run_line_alone, run_line_no_implication, implication_line_alone, implication_line_no_run}
 use Rattle.kp_replies.proofs.Texts.{line_read}
@@ -43,6 +43,7 @@ use Rattle.kp_methods.specs.Simplified as simplification
 use Rattle.kp_methods.specs.Simplified.{IsSimplifiedAs}
 use Rattle.kp_methods.specs.ServedTheory.{ServedTheory}
 use Rattle.kp_methods.specs.Implied as implication
+use Rattle.kp_implies.specs.Answers.{IsRightOfSides}
 use Rattle.kp_methods.specs.Implied.{IsImpliedAs}
 use Rattle.kp_service.specs.Answered.{IsReplyIn, no_such_module, in_module}
 use Rattle.kp_service.specs.Answers.{Adds, IsReplyTo, IsMember, told, added, silent, added_silently, IsAnswer, refusal, alone, together, items_of, batch_reply}
@@ -234,32 +235,39 @@ run_replied o t frame book s id options _ _ u a (execution.understood p sort d v
 same_implication : (x y : Implied) → implied y ≡ implied x → y ≡ x
 same_implication x y e = cc e
 
-implication_told : (o : Opening) (t : Theory) (frame : List ℕ) (book : List Registration) (s : ServedTheory) (id : RequestId) (name : Option Text) (p q : KorePattern) (d : Data) →
-    (u : Setup o t frame book s name) → IsAsked u.tree id (requests.implies (read p) (read q) name) → implication.IsImplied s (record { id = id; antecedent = p; consequent = q; module_name = name }) d →
-    IsRightExchange (told_theory o t) (record { frame = frame; reply = reply_bytes d })
-implication_told o t frame book s id name p q d u a r =
-    let x = r.right.result in
-    let is = r.right.reply_is in
+implication_told : (o : Opening) (t : Theory) (frame : List ℕ) (book : List Registration) (s : ServedTheory) (id : RequestId) (name : Option Text) (p q : KorePattern) (x : Implied) (tree : Data) →
+    (u : Setup o t frame book s name) → IsAsked u.tree id (requests.implies (read p) (read q) name) → implied_tree x ≡ Some tree → IsRightImplied s.theory.signature p q x →
+    IsRightExchange (told_theory o t) (record { frame = frame; reply = reply_bytes (result_reply id tree) })
+implication_told o t frame book s id name p q x tree u a written right =
     let lawful = asked_id frame u.tree id _ u.is_frame a in
     let asked = implication_request u.tree id p q name a in
     record {
-      executes = λ y h. absurd (implication_line_no_run id x r.right.tree (executed y) lawful r.right.written (subst (λ (e : Data). IsReplyOf execute (reply_bytes e) (executed y)) is h));
+      executes = λ y h. absurd (implication_line_no_run id x tree (executed y) lawful written h);
       implies_so = λ y h. record {
         members = asked.0;
         request = record { id = id; antecedent = p; consequent = q; module_name = name };
         is_frame = subst (λ (e : Data). IsFrame frame e) asked.1 u.is_frame;
         is_request = asked.2;
         right = λ main.
-            let same : y ≡ x = same_implication x y (implication_line_alone id x r.right.tree (implied y) lawful r.right.written (subst (λ (e : Data). IsReplyOf implies (reply_bytes e) (implied y)) is h)) in
-            subst (λ (v : Theory). IsRightImplied v.signature p q y) (theory_is o t frame book s name u main) (subst (λ (z : Implied). IsRightImplied s.theory.signature p q z) (sym same) r.right.right);
+            let same : y ≡ x = same_implication x y (implication_line_alone id x tree (implied y) lawful written h) in
+            subst (λ (v : Theory). IsRightImplied v.signature p q y) (theory_is o t frame book s name u main) (subst (λ (z : Implied). IsRightImplied s.theory.signature p q z) (sym same) right);
       };
     }
 
+-- a right answer: a result, or what isn't decided
+implication_answered : (o : Opening) (t : Theory) (frame : List ℕ) (book : List Registration) (s : ServedTheory) (id : RequestId) (name : Option Text) (p q : KorePattern) (r : Result Implied) (d : Data) →
+    (u : Setup o t frame book s name) → IsAsked u.tree id (requests.implies (read p) (read q) name) → IsRightOfSides s.theory.signature p q r → implication.reply_of id r ≡ Some d →
+    IsRightExchange (told_theory o t) (record { frame = frame; reply = reply_bytes d })
+implication_answered o t frame book s id name p q (answered x) d u a right made =
+    let m = mapped (λ tree. result_reply id tree) (implied_tree x) d made in
+    subst (λ (e : Data). IsRightExchange (told_theory o t) (record { frame = frame; reply = reply_bytes e })) m.2 (implication_told o t frame book s id name p q x m.0 u a m.1 right)
+implication_answered o t frame book s id name p q (endings.what_is_undecided cause) d u a right made = with_nothing (told_theory o t) frame (reply_bytes d) (failure_told id (undecided (parts_of_cause cause)) d made)
+
 implication_replied : (o : Opening) (t : Theory) (frame : List ℕ) (book : List Registration) (s : ServedTheory) (id : RequestId) (name : Option Text) (left right : Reading KorePattern) (d : Data) →
-    (u : Setup o t frame book s name) → IsAsked u.tree id (requests.implies left right name) → IsImpliedAs s id name left right d → IsRightExchange (told_theory o t) (record { frame = frame; reply = reply_bytes d })
+    (u : Setup o t frame book s name) → IsAsked u.tree id (requests.implies left right name) → IsImpliedAs s.theory.signature id left right d → IsRightExchange (told_theory o t) (record { frame = frame; reply = reply_bytes d })
 implication_replied o t frame book s id name _ _ _ u a (implication.bad_sides left right e wrong) = with_nothing (told_theory o t) frame _ (error_told id e)
 implication_replied o t frame book s id name _ _ _ u a (implication.incomparable p q f d faultless wrong made) = with_nothing (told_theory o t) frame (reply_bytes d) (failure_told id (bad_sides (implication.told_fault f)) d made)
-implication_replied o t frame book s id name _ _ _ u a (implication.implied p q d r) = implication_told o t frame book s id name p q d u a r
+implication_replied o t frame book s id name _ _ _ u a (implication.told p q r d faultless comparable right made) = implication_answered o t frame book s id name p q r d u a right made
 
 -- ---- simplify
 
@@ -320,7 +328,7 @@ replied o t frame book call id (asks (requests.execute state options)) d main c 
     (λ s served over. run_replied o t frame book s id options state d (record { main = main; tree = c.tree; is_frame = a.1; served = served }) a.0 over) right
 replied o t frame book call id (asks (requests.implies left right name)) d main c named is over =
     let a = call_asks frame call id (requests.implies left right name) c named is in
-    in_reply o t frame book name id (λ s. IsImpliedAs s id name left right) d
+    in_reply o t frame book name id (λ s. IsImpliedAs s.theory.signature id left right) d
     (λ s served reply. implication_replied o t frame book s id name left right d (record { main = main; tree = c.tree; is_frame = a.1; served = served }) a.0 reply) over
 replied o t frame book call id (asks (requests.simplify state name)) d main c named is right =
     let a = call_asks frame call id (requests.simplify state name) c named is in

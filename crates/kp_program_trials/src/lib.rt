@@ -20,6 +20,8 @@ mod connections;
 #[cfg(test)]
 mod definitions;
 #[cfg(test)]
+mod implications;
+#[cfg(test)]
 mod replies;
 #[cfg(test)]
 mod simplified;

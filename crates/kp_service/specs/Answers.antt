@@ -23,7 +23,7 @@ use Rattle.kp_methods.specs.Executed.{IsExecutedAs}
 abbrev pub IsReplyTo : Opening → List Registration → RequestId → Asked → Data → Type 0
 IsReplyTo o book id (refused e) reply = reply ≡ error_reply id e
 IsReplyTo o book id (asks (execute state options)) reply = IsReplyIn o book options.module_name id (λ s. IsExecutedAs s id options state) reply
-IsReplyTo o book id (asks (implies antecedent consequent name)) reply = IsReplyIn o book name id (λ s. IsImpliedAs s id name antecedent consequent) reply
+IsReplyTo o book id (asks (implies antecedent consequent name)) reply = IsReplyIn o book name id (λ s. IsImpliedAs s.theory.signature id antecedent consequent) reply
 IsReplyTo o book id (asks (simplify state name)) reply = IsReplyIn o book name id (λ s. IsSimplifiedAs s.theory.signature id state) reply
 IsReplyTo o book id (asks (add_module text name_as_id)) reply = (f : Failure) × IsRefusedFor o book text name_as_id f × (failure_reply id f ≡ Some reply)
 

@@ -186,6 +186,7 @@ fn request_line<R: Wait>(
             rt,
             alloc,
             registry,
+            prepared,
             pass,
             id,
             antecedent,
@@ -229,6 +230,7 @@ fn implies_line<R: Wait>(
     rt: &R,
     alloc: Global,
     registry: &Registry,
+    prepared: &Prepared,
     pass: &mut Pass,
     id: &Id,
     antecedent: Reading,
@@ -236,12 +238,13 @@ fn implies_line<R: Wait>(
     module_name: Option<String>,
 ) -> Result<Vec<u8>, AllocError>
     requires pass { IsPassOf registry.now pass.old }
+    requires prepared { IsReadyFor registry.now prepared.now }
     ensures pass { IsPassOf registry.now pass.new }
     ensures looked { HasLooked pass.old pass.new }
     ensures line { let asked = requests.asks (requests.implies (reading_view antecedent) (reading_view consequent) (name_view module_name)) in IfOk result (λ line. AtEachBookSeen registry.now pass.new (λ o book. IsLineOf (IsReplyTo o book (id_view id.now) asked) line.items)) }
 {
     match rules_at(rt, alloc, registry, pass, &module_name)? {
-        Some(rules) => implied_line(alloc, &rules, id, antecedent, consequent),
+        Some(_rules) => implied_line(alloc, prepared, id, antecedent, consequent),
         None => no_module_line(alloc, id, module_name),
     }
 }

@@ -1,15 +1,12 @@
-use Rattle.std.specs.Option.{option_map}
-use Rattle.kp_kore.specs.View.{sort_view}
+use Rattle.std.proofs.Common.{◌∙◌}
+use Rattle.kp_symbolic.specs.Endings.{answered}
 use Rattle.kp_results.specs.View.{implied_view}
 use Rattle.kp_rpc.specs.View.{id_view}
-use Rattle.kp_methods.proofs.Implied.{has_line}
-use Rattle.kp_methods.proofs.Implying.{result_line_is}
+use Rattle.kp_methods.proofs.Implying.{answer_line, result_bytes}
 use Rattle.kp_methods.proofs.implies.result_line.Goals as goal
 
-pub returns : goal.returns
-returns c =
-    result_line_is (id_view c.args.id.now) (option_map sort_view c.args.sort.now) (implied_view c.in_ok-implied.implied) c.in_ok-line.field-0 c.in-Some.line c.in_ok-implied.ensures c.in-Some.is c.in_ok-line.ensures
-
-pub unreachable-requires : goal.unreachable-requires
-unreachable-requires c =
-    has_line (id_view c.args.id.now) (option_map sort_view c.args.sort.now) (implied_view c.in_ok-implied.implied) c.in_ok-line.field-0 c.in_ok-implied.ensures c.in_ok-line.ensures c.in-None.is
+pub returns-in-Some : goal.returns-in-Some
+returns-in-Some c = λ g a b h.
+    let id = id_view c.args.id.now in
+    let r = implied_view c.args.implied.now in
+    answer_line g id a b (answered r) c.in_ok-line.field-0 c.in-Some.line h c.in-Some.is (c.in_ok-line.ensures ∙ result_bytes id r)
