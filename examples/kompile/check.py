@@ -7,7 +7,7 @@ import os
 import subprocess
 import sys
 
-from states import counter, imp, request, told, wrapped
+from states import counter, imp, request, sort, told, wrapped
 
 ROOM = os.path.dirname(os.path.abspath(__file__))
 LOOP = "while (! n <= 0) { sum = sum + n ; n = n - 1 ; }"
@@ -69,6 +69,11 @@ def imp_requests():
         request("simplified, a product", imp("S:Stmt ~> .", n="X", where=["X > 0", "X * Y > 0"]), "simplify"),
         compared("the same", imp("n = 1 ; ~> .", n="2 + 1"), imp("n = 1 ; ~> .", n="3")),
         compared("another", imp("n = 1 ; ~> .", n="2"), imp("n = 1 ; ~> .", n="3")),
+        compared("an invariant, a round on", imp(f"{LOOP} ~> .", n="X - 1", sum="Y + X", where=["X > 0"]), some(imp(f"{LOOP} ~> .", n="A", sum="B", where=["A >= 0"]), A="Int", B="Int")),
+        compared("an invariant that is lost", imp(f"{LOOP} ~> .", n="X - 1", sum="Y + X", where=["X >= 0"]), some(imp(f"{LOOP} ~> .", n="A", sum="B", where=["A >= 0"]), A="Int", B="Int")),
+        compared("a narrowed cell", imp("S:Stmt ~> R:K", n="X"), some(imp("Q:Id = E:AExp ; ~> T:K", n="A"), Q="Id", E="AExp", T="K", A="Int")),
+        compared("a cell that is narrow", imp("Q:Id = E:AExp ; ~> R:K", n="X", where=["X > 1"]), some(imp("S:Stmt ~> T:K", n="A", where=["A > 0"]), S="Stmt", T="K", A="Int")),
+        compared("an implied product", imp("n = 1 ; ~> .", n="X", sum="Y"), imp("n = 1 ; ~> .", n="X", sum="Y", where=["X * Y > 0"])),
         request("error: a foreign symbol", imp("n = 1 ; ~> .", n="X / 2")),
         request("error: no such module", imp("n = 1 ; ~> ."), module="IMP-SYNTAX"),
         request("error: too deep", imp("n = 1 ; ~> " * 43 + ".")),
@@ -78,6 +83,13 @@ def imp_requests():
 def compared(name, antecedent, consequent):
     params = {"antecedent": wrapped(antecedent), "consequent": wrapped(consequent)}
     return {"id": name, "jsonrpc": "2.0", "method": "implies", "params": params}
+
+
+def some(state, **bound):
+    """For some values of these variables."""
+    for name, of in reversed(bound.items()):
+        state = {"arg": state, "sort": sort("GeneratedTopCell"), "tag": "Exists", "var": "Var" + name, "varSort": sort(of)}
+    return state
 
 
 FILES = [("counter", "COUNTER", counter_requests), ("imp", "IMP", imp_requests)]
