@@ -104,13 +104,13 @@ static ROWS: [(&str, &str, &[&str], &str); 16] = [
         TOYS,
         CLAIMS,
         &["c.kore"],
-        "passed T.two\npending T.odd node 1 foreign TOYS.odd\nrefused T.chosen code 2\npassed T.mid\nstatus 2: ",
+        "passed T.two\npending T.odd node 1 foreign TOYS.odd\nfailed T.chosen node 2\npassed T.mid\nstatus 1: ",
     ),
     (
         TOYS,
         CLAIMS,
         &["c.kore", "--max-depth", "2"],
-        "passed T.two\npending T.odd node 1 foreign TOYS.odd\nrefused T.chosen code 2\nfailed T.mid node 3\nstatus 1: ",
+        "passed T.two\npending T.odd node 1 foreign TOYS.odd\nfailed T.chosen node 2\nfailed T.mid node 3\nstatus 1: ",
     ),
     // a claim that goes round uses its rounds
     (
@@ -192,7 +192,7 @@ static ROWS: [(&str, &str, &[&str], &str); 16] = [
         TOYS,
         CLAIMS,
         &["c.kore", "--max-depth", "10000"],
-        "passed T.two\npending T.odd node 1 foreign TOYS.odd\nrefused T.chosen code 2\nfailed T.mid node 2\nstatus 1: ",
+        "passed T.two\npending T.odd node 1 foreign TOYS.odd\nfailed T.chosen node 2\nfailed T.mid node 2\nstatus 1: ",
     ),
 ];
 
