@@ -22,7 +22,7 @@ use std::sync::Arc;
 const EMPTY: &str = "[] module MAIN endmodule []";
 
 /// The table of the definition.
-pub fn table(alloc: Global) -> Result<ModuleTable, AllocError> {
+pub(crate) fn table(alloc: Global) -> Result<ModuleTable, AllocError> {
     match read_definition(alloc, EMPTY.as_bytes()) {
         Ok(definition) => match load(alloc, &definition, "MAIN") {
             Ok(table) => Ok(table),
@@ -33,7 +33,7 @@ pub fn table(alloc: Global) -> Result<ModuleTable, AllocError> {
 }
 
 /// The text of the module of this number.
-pub fn text_of(alloc: Global, number: u64) -> Result<Vec<u8>, AllocError> {
+pub(crate) fn text_of(alloc: Global, number: u64) -> Result<Vec<u8>, AllocError> {
     Ok(format!(in alloc; "module M{number} endmodule []")?.into_bytes())
 }
 
